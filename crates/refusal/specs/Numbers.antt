@@ -5,9 +5,14 @@ use Rattle.std.specs.declared.option.Option.the-variants.{Some, None}
 use Rattle.std.specs.declared.result.Result.{Result}
 use Rattle.std.specs.declared.result.Result.the-variants.{Ok, Err}
 use Rattle.refusal.specs.declared.Reason.{Reason}
-use Rattle.refusal.specs.declared.Reason.the-variants.{DoesNotFit, NotTuning}
+use Rattle.refusal.specs.declared.Reason.the-variants.{TooDeep, NoMemory, NothingThere, BadName, NotAllowed, DoesNotFit, NotTuning}
 
 abbrev pub number : Reason → ℕ
+number TooDeep = 13
+number NoMemory = 14
+number NothingThere = 17
+number BadName = 18
+number NotAllowed = 19
 number DoesNotFit = 20
 number NotTuning = 21
 

@@ -1,0 +1,5 @@
+pub mod Utf8
+pub mod Steps
+pub mod Outline
+pub mod Law
+pub mod Items

@@ -1,0 +1,3 @@
+pub mod name;
+pub mod parts;
+pub mod pile;
