@@ -1,2 +1,5 @@
 pub mod Texts
 pub mod Piled
+pub mod Adjusted
+pub mod Held
+pub mod Told

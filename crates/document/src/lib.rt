@@ -1,3 +1,4 @@
+pub mod cells;
 pub mod name;
 pub mod parts;
 pub mod pile;
