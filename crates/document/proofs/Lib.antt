@@ -3,3 +3,5 @@ pub mod Piled
 pub mod Adjusted
 pub mod Held
 pub mod Told
+pub mod Good
+pub mod Entered
