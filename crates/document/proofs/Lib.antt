@@ -1,4 +1,5 @@
 pub mod Texts
+pub mod Ranged
 pub mod Piled
 pub mod Adjusted
 pub mod Held

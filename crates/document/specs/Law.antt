@@ -40,11 +40,15 @@ pub data Kind : Type 0 where
 abbrev pub Memory : Type 0
 Memory = Kind → ℕ
 
+-- so many cells, codepoints and name bytes
+abbrev pub so-much : ℕ → ℕ → ℕ → Memory
+so-much c p n cells = c
+so-much c p n points = p
+so-much c p n names = n
+
 -- of what is lent no more than this is used
 abbrev pub limit : Memory
-limit cells = 16384
-limit points = 262144
-limit names = 65536
+limit = so-much 16384 262144 65536
 
 abbrev pub usable : Memory → Memory
 usable m k = min (m k) (limit k)
@@ -97,9 +101,7 @@ codepoints-of (share s t) = []
 
 -- a value needs one cell, its codepoints and its name
 abbrev pub need : Name → Begun → Memory
-need n b cells = 1
-need n b points = length (codepoints-of b)
-need n b names = length n
+need n b = so-much 1 (length (codepoints-of b)) (length n)
 
 -- what the steps use
 abbrev pub used : Steps → Memory

@@ -1,4 +1,5 @@
 pub mod cells;
+mod item;
 pub mod name;
 pub mod parts;
 pub mod pile;
