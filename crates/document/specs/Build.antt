@@ -13,7 +13,7 @@ use Rattle.document.specs.declared.parts.Sort.the-variants.{Nothing, Logic, Ch
 use Rattle.document.specs.declared.parts.Cell.{Cell}
 use Rattle.document.specs.Adjust.{adjust}
 use Rattle.document.specs.Steps.{Name, Tag, none, logic, char, integer, float, text, Begun, put, open′, share, Step, begin, close, Steps}
-use Rattle.document.specs.Outline.{Entry, has-family, own-family}
+use Rattle.document.specs.Outline.{Entry, has-family, own-family, is-object}
 use Rattle.document.specs.Law.{codepoints-of}
 
 -- ---- cells
@@ -239,3 +239,12 @@ cut-at (Share s t) all = all
 -- whether a value of this sort may be the target of a share of this family
 abbrev pub sort-suits : Sort → Family → Bool
 sort-suits s f = has-family (own-family (begun-of [] s)) f
+
+-- whether a value of this sort is an opened object
+abbrev pub begun-object : Begun → Bool
+begun-object (put v) = false
+begun-object (open′ h) = is-object h
+begun-object (share s t) = false
+
+abbrev pub sort-is-object : Sort → Bool
+sort-is-object s = begun-object (begun-of [] s)

@@ -6,3 +6,4 @@ pub mod Law
 pub mod Given
 pub mod Items
 pub mod Build
+pub mod Standing

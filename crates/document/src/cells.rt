@@ -4,7 +4,7 @@ ghost use Prim.Native.Nat.{ℕ, _+_, _-_, _^_, _<_};
 ghost use lib.ListN.{length};
 ghost use Rattle.document.specs.Adjust.{adjust};
 ghost use Rattle.document.specs.Items.{items, Sound};
-ghost use Rattle.document.specs.Build.{more, less, shut, unshut, count-in, adjust-at, inside, deeper, shallower, Under, Raisable, cell-at, holders, up, ups, cut-at, sort-suits};
+ghost use Rattle.document.specs.Build.{more, less, shut, unshut, count-in, adjust-at, inside, deeper, shallower, Under, Raisable, cell-at, holders, up, ups, cut-at, sort-suits, sort-is-object};
 use crate::parts::Cell;
 use crate::parts::Family;
 use crate::parts::Holder;
@@ -176,6 +176,16 @@ pub fn sort_suits(sort: Sort, family: Family) -> bool
             Holder::List { .. } => matches!(family, Family::Lists),
             Holder::Object { .. } => matches!(family, Family::Objects),
         },
+        _ => false,
+    }
+}
+
+// Whether a value of this sort is an object.
+pub fn is_object(sort: Sort) -> bool
+    ensures { λ r. ⌜ r ≡ sort-is-object sort ⌝ }
+{
+    match sort {
+        Sort::Open { holder, .. } => matches!(holder, Holder::Object { .. }),
         _ => false,
     }
 }

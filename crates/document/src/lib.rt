@@ -1,5 +1,6 @@
-pub mod cells;
+mod cells;
 mod item;
 pub mod name;
 pub mod parts;
-pub mod pile;
+mod pile;
+pub mod store;
