@@ -7,3 +7,4 @@ pub mod Told
 pub mod Good
 pub mod Entered
 pub mod Agreed
+pub mod Checked

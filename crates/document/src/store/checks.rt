@@ -56,7 +56,11 @@ impl<'a> Store<'a> {
         match target {
             Node::Root => false,
             Node::At(number) => {
-                number < self.cells.count() && sort_suits(self.cells.get(number).sort, family)
+                if number < self.cells.count() {
+                    sort_suits(self.cells.get(number).sort, family)
+                } else {
+                    false
+                }
             }
         }
     }
@@ -78,7 +82,10 @@ impl<'a> Store<'a> {
         requires { ⌜ Kept (now self) ⌝ }
         ensures { λ r. ⌜ r ≡ has-room (memory-lent (now (self .entry))) (standing (now (self .entry))) (so-much 1 codepoints names) ⌝ }
     {
-        self.cells.takes(1) && self.codepoints.takes(codepoints) && self.names.takes(names)
+        let cells_fit = self.cells.takes(1);
+        let codepoints_fit = self.codepoints.takes(codepoints);
+        let names_fit = self.names.takes(names);
+        cells_fit & (codepoints_fit & names_fit)
     }
 
     // The first reason, if there is one, for which the step is refused that begins this value.
