@@ -8,3 +8,4 @@ pub mod Good
 pub mod Entered
 pub mod Agreed
 pub mod Checked
+pub mod Within

@@ -1,5 +1,6 @@
 -- The steps that stand in a store, and what a store keeps.
 use mathlib.Core.Path.{_≡_}
+use mathlib.Core.List.{_∷_}
 use Prim.Native.Nat.{ℕ}
 use Rattle.std.specs.declared.result.Result.{Result}
 use Rattle.std.specs.declared.result.Result.the-variants.{Ok, Err}
@@ -36,6 +37,12 @@ pub record Kept (s : Store) : Type 0 where
   pub points-bound : s .codepoints .bound ≡ limit points
   pub names-bound : s .names .bound ≡ limit names
   pub stands : Stands (memory-lent s) (in-use s)
+
+-- with one more step a store becomes another
+pub record Grown (s : Store) (step : Step) (t : Store) : Type 0 where
+  pub kept : Kept t
+  pub memory : memory-lent t ≡ memory-lent s
+  pub told : standing t ≡ step ∷ standing s
 
 -- a refused call leaves the store as it was
 abbrev pub Still : {X : Type 0} → Result X Reason → Store → Store → Type 0

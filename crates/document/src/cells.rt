@@ -3,7 +3,7 @@ ghost use mathlib.Core.Path.{_≡_};
 ghost use Prim.Native.Nat.{ℕ, _+_, _-_, _^_, _<_};
 ghost use lib.ListN.{length};
 ghost use Rattle.document.specs.Adjust.{adjust};
-ghost use Rattle.document.specs.Items.{items, Sound};
+ghost use Rattle.document.specs.Items.{items, Sound, Sized};
 ghost use Rattle.document.specs.Build.{more, less, shut, unshut, count-in, adjust-at, inside, deeper, shallower, Under, Raisable, cell-at, holders, up, ups, cut-at, sort-suits, sort-is-object};
 use crate::parts::Cell;
 use crate::parts::Family;
@@ -46,7 +46,7 @@ fn lowered(cell: Cell) -> Cell
 }
 
 // One more value in the value `holder`.
-pub fn raise(cells: &mut [Cell], holder: Node)
+fn raise(cells: &mut [Cell], holder: Node)
     requires inside { ⌜ Under (length (now cells)) holder ⌝ }
     requires room { ⌜ Raisable (now cells) holder ⌝ }
     ensures { λ _. ⌜ now (cells .exit) ≡ adjust-at holder more (now (cells .entry)) ⌝ }
@@ -58,7 +58,7 @@ pub fn raise(cells: &mut [Cell], holder: Node)
 }
 
 // One value less in the value `holder`.
-pub fn lower(cells: &mut [Cell], holder: Node)
+fn lower(cells: &mut [Cell], holder: Node)
     requires { ⌜ Under (length (now cells)) holder ⌝ }
     ensures { λ _. ⌜ now (cells .exit) ≡ adjust-at holder less (now (cells .entry)) ⌝ }
 {
@@ -69,7 +69,7 @@ pub fn lower(cells: &mut [Cell], holder: Node)
 }
 
 // One more close after the value `number`.
-pub fn add_close(cells: &mut [Cell], number: u32)
+fn add_close(cells: &mut [Cell], number: u32)
     requires inside { ⌜ number < length (now cells) ⌝ }
     requires room { ⌜ cell-at (now cells) number .closes + 1 < 2 ^ 32 ⌝ }
     ensures { λ _. ⌜ now (cells .exit) ≡ adjust (now (cells .entry)) number shut ⌝ }
@@ -83,7 +83,7 @@ pub fn add_close(cells: &mut [Cell], number: u32)
 }
 
 // One close less after the value `number`.
-pub fn drop_close(cells: &mut [Cell], number: u32)
+fn drop_close(cells: &mut [Cell], number: u32)
     requires inside { ⌜ number < length (now cells) ⌝ }
     requires closed { ⌜ 0 < cell-at (now cells) number .closes ⌝ }
     ensures { λ _. ⌜ now (cells .exit) ≡ adjust (now (cells .entry)) number unshut ⌝ }
@@ -188,4 +188,53 @@ pub fn is_object(sort: Sort) -> bool
         Sort::Open { holder, .. } => matches!(holder, Holder::Object { .. }),
         _ => false,
     }
+}
+
+// The same on the cells in use of a pile.
+//
+// One more value in the value `holder`.
+pub fn raise_in(cells: &mut Pile<'_, Cell>, holder: Node)
+    requires sound { ⌜ Sound (now cells) ⌝ }
+    requires inside { ⌜ Under (length (items (now cells))) holder ⌝ }
+    requires room { ⌜ Raisable (items (now cells)) holder ⌝ }
+    ensures items { λ _. ⌜ items (now (cells .exit)) ≡ adjust-at holder more (items (now (cells .entry))) ⌝ }
+    ensures sound { λ _. ⌜ Sound (now (cells .exit)) ⌝ }
+    ensures sized { λ _. ⌜ Sized (now (cells .entry)) (now (cells .exit)) ⌝ }
+{
+    raise(cells.memory, holder);
+}
+
+// One value less in the value `holder`.
+pub fn lower_in(cells: &mut Pile<'_, Cell>, holder: Node)
+    requires sound { ⌜ Sound (now cells) ⌝ }
+    requires inside { ⌜ Under (length (items (now cells))) holder ⌝ }
+    ensures items { λ _. ⌜ items (now (cells .exit)) ≡ adjust-at holder less (items (now (cells .entry))) ⌝ }
+    ensures sound { λ _. ⌜ Sound (now (cells .exit)) ⌝ }
+    ensures sized { λ _. ⌜ Sized (now (cells .entry)) (now (cells .exit)) ⌝ }
+{
+    lower(cells.memory, holder);
+}
+
+// One more close after the value `number`.
+pub fn add_close_in(cells: &mut Pile<'_, Cell>, number: u32)
+    requires sound { ⌜ Sound (now cells) ⌝ }
+    requires inside { ⌜ number < length (items (now cells)) ⌝ }
+    requires room { ⌜ cell-at (items (now cells)) number .closes + 1 < 2 ^ 32 ⌝ }
+    ensures items { λ _. ⌜ items (now (cells .exit)) ≡ adjust (items (now (cells .entry))) number shut ⌝ }
+    ensures sound { λ _. ⌜ Sound (now (cells .exit)) ⌝ }
+    ensures sized { λ _. ⌜ Sized (now (cells .entry)) (now (cells .exit)) ⌝ }
+{
+    add_close(cells.memory, number);
+}
+
+// One close less after the value `number`.
+pub fn drop_close_in(cells: &mut Pile<'_, Cell>, number: u32)
+    requires sound { ⌜ Sound (now cells) ⌝ }
+    requires inside { ⌜ number < length (items (now cells)) ⌝ }
+    requires closed { ⌜ 0 < cell-at (items (now cells)) number .closes ⌝ }
+    ensures items { λ _. ⌜ items (now (cells .exit)) ≡ adjust (items (now (cells .entry))) number unshut ⌝ }
+    ensures sound { λ _. ⌜ Sound (now (cells .exit)) ⌝ }
+    ensures sized { λ _. ⌜ Sized (now (cells .entry)) (now (cells .exit)) ⌝ }
+{
+    drop_close(cells.memory, number);
 }

@@ -3,12 +3,14 @@ ghost use mathlib.Core.Path.{_≡_};
 ghost use Prim.Native.Nat.{_<_, _^_};
 ghost use lib.ListN.{length};
 ghost use Rattle.document.specs.Given.{content, begun};
+ghost use Rattle.document.specs.Steps.{open′ as opening, share as sharing};
 ghost use Rattle.document.specs.Outline.{share-family};
 ghost use Rattle.document.specs.Law.{codepoints-ok, content-ok, holder-ok, share-ok, codepoints-of};
 ghost use Rattle.document.specs.Build.{sort-of};
 use crate::parts::Family;
 use crate::parts::Holder;
 use crate::parts::Item;
+use crate::parts::Node;
 use crate::parts::Share;
 use crate::parts::Sort;
 use crate::parts::Span;
@@ -110,4 +112,16 @@ pub fn sort_of(item: Item<'_>, from: u32) -> Sort
         Item::Open(holder) => Sort::Open { holder, count: 0 },
         Item::Share(share, target) => Sort::Share { share, target },
     }
+}
+
+pub fn opened<'v>(holder: Holder) -> Item<'v>
+    ensures { λ r. ⌜ begun r ≡ opening holder ⌝ }
+{
+    Item::Open(holder)
+}
+
+pub fn shared<'v>(share: Share, target: Node) -> Item<'v>
+    ensures { λ r. ⌜ begun r ≡ sharing share target ⌝ }
+{
+    Item::Share(share, target)
 }

@@ -1,13 +1,32 @@
-// The calls that add steps and take them back.
+// The calls that add steps.
 ghost use mathlib.Core.Path.{_≡_};
 ghost use mathlib.Core.List.{[], _∷_};
 ghost use lib.ListN.{length};
-ghost use Rattle.document.specs.Law.{so-much};
-ghost use Rattle.document.specs.Standing.{standing, memory-lent, Kept};
-use crate::pile::Pile;
+ghost use Rattle.std.specs.declared.option.Option.the-variants.{None as accepted};
+ghost use Rattle.document.specs.Given.{tag, content, begun};
+ghost use Rattle.document.specs.Steps.{begin as began, close as closed, put as putting, open′ as opening, share as sharing};
+ghost use Rattle.document.specs.Outline.{values};
+ghost use Rattle.document.specs.Law.{so-much, refusal};
+ghost use Rattle.document.specs.Standing.{standing, memory-lent, Kept, Grown, Took};
+use crate::cells::depth_with;
+use crate::cells::inside_of;
+use crate::cells::raise_in;
+use crate::item::codepoints_of;
+use crate::item::opened;
+use crate::item::shared;
+use crate::item::sort_of;
+use crate::parts::Cell;
+use crate::parts::Holder;
+use crate::parts::Item;
+use crate::parts::Label;
 use crate::parts::Node;
+use crate::parts::Share;
+use crate::parts::Span;
+use crate::parts::Value;
+use crate::pile::Pile;
 use crate::store::Memories;
 use crate::store::Store;
+use refusal::Reason;
 
 // Of the memory that is lent, no more than this is used.
 const CELLS: u32 = 16_384;
@@ -33,5 +52,70 @@ impl<'a> Store<'a> {
             innermost: Node::Root,
             depth: 0,
         }
+    }
+
+    // Begins a value that the law accepts.
+    fn add(&mut self, label: Label<'_>, item: Item<'_>)
+        requires kept { ⌜ Kept (now self) ⌝ }
+        requires lawful { ⌜ refusal (memory-lent (now self)) (standing (now self)) (began (tag label) (begun item)) ≡ accepted ⌝ }
+        ensures { λ _. ⌜ Grown (now (self .entry)) (began (tag (label .entry)) (begun (item .entry))) (now (self .exit)) ⌝ }
+    {
+        let name = label.name;
+        let codepoints = codepoints_of(item);
+        let innermost = self.innermost;
+        let depth = self.depth;
+        let number = self.cells.count();
+        let sort = sort_of(item, self.codepoints.count());
+        let cell = Cell {
+            new_line: label.new_line,
+            name: Span {
+                start: self.names.count(),
+                len: name.len() as u32,
+            },
+            holder: innermost,
+            closes: 0,
+            sort,
+        };
+        self.names.append(name);
+        self.codepoints.append(codepoints);
+        raise_in(&mut self.cells, innermost);
+        self.cells.push(cell);
+        self.innermost = inside_of(sort, number, innermost);
+        self.depth = depth_with(sort, depth);
+    }
+
+    // Begins a value, or says why not.
+    fn begin(&mut self, label: Label<'_>, item: Item<'_>) -> Result<u32, Reason>
+        requires { ⌜ Kept (now self) ⌝ }
+        ensures { λ r. ⌜ Took (now (self .entry)) (began (tag (label .entry)) (begun (item .entry))) (length (values (standing (now (self .entry))))) r (now (self .exit)) ⌝ }
+    {
+        self.check(label, item)?;
+        let number = self.cells.count();
+        self.add(label, item);
+        Ok(number)
+    }
+
+    // Puts a value that holds no others. The answer is its number.
+    pub fn put(&mut self, label: Label<'_>, value: Value<'_>) -> Result<u32, Reason>
+        requires { ⌜ Kept (now self) ⌝ }
+        ensures { λ r. ⌜ Took (now (self .entry)) (began (tag (label .entry)) (putting (content (value .entry)))) (length (values (standing (now (self .entry))))) r (now (self .exit)) ⌝ }
+    {
+        self.begin(label, Item::Put(value))
+    }
+
+    // Opens a list or an object. The answer is its number.
+    pub fn open(&mut self, label: Label<'_>, holder: Holder) -> Result<u32, Reason>
+        requires { ⌜ Kept (now self) ⌝ }
+        ensures { λ r. ⌜ Took (now (self .entry)) (began (tag (label .entry)) (opening holder)) (length (values (standing (now (self .entry))))) r (now (self .exit)) ⌝ }
+    {
+        self.begin(label, opened(holder))
+    }
+
+    // Shares an earlier value. The answer is the new value's number.
+    pub fn share(&mut self, label: Label<'_>, share: Share, target: Node) -> Result<u32, Reason>
+        requires { ⌜ Kept (now self) ⌝ }
+        ensures { λ r. ⌜ Took (now (self .entry)) (began (tag (label .entry)) (sharing share target)) (length (values (standing (now (self .entry))))) r (now (self .exit)) ⌝ }
+    {
+        self.begin(label, shared(share, target))
     }
 }
