@@ -9,3 +9,4 @@ pub mod Entered
 pub mod Agreed
 pub mod Checked
 pub mod Within
+pub mod Adding
