@@ -51,7 +51,7 @@ unless-none : (b : Bool) (why : Reason) (next : Option Reason) → unless b why 
 unless-none true why next h = (refl, h)
 unless-none false why next h = let z : _≡_ {A = ℕ} 0 1 = cc in absurd (omega (arith, z))
 
-passed : (M : Memory) (e : Steps) (l : Tag) (b : Begun) → refusal M e (begin l b) ≡ None → (ltb (length (opened e)) deepest ≡ true) × (has-room M e (need (l .name) b) ≡ true)
+pub passed : (M : Memory) (e : Steps) (l : Tag) (b : Begun) → refusal M e (begin l b) ≡ None → (ltb (length (opened e)) deepest ≡ true) × (has-room M e (need (l .name) b) ≡ true)
 passed M e l b h =
     let n = unless-none (name-ok (opened e) (l .name)) BadName _ h in
     let v = unless-none (begun-ok (values e) b) NotAllowed _ (n .1) in

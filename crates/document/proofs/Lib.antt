@@ -10,3 +10,4 @@ pub mod Agreed
 pub mod Checked
 pub mod Within
 pub mod Adding
+pub mod Undone

@@ -44,6 +44,13 @@ pub record Grown (s : Store) (step : Step) (t : Store) : Type 0 where
   pub memory : memory-lent t ≡ memory-lent s
   pub told : standing t ≡ step ∷ standing s
 
+-- without its newest step a store becomes another
+pub record Shrunk (s t : Store) : Type 0 where
+  pub kept : Kept t
+  pub memory : memory-lent t ≡ memory-lent s
+  pub step : Step
+  pub told : standing s ≡ step ∷ standing t
+
 -- a refused call leaves the store as it was
 abbrev pub Still : {X : Type 0} → Result X Reason → Store → Store → Type 0
 Still (Ok x) s t = Unit {0}

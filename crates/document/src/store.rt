@@ -2,6 +2,7 @@ use crate::parts::Cell;
 use crate::parts::Node;
 use crate::pile::Pile;
 
+mod backs;
 mod checks;
 mod edits;
 

@@ -8,6 +8,7 @@ ghost use Rattle.document.specs.Steps.{begin as began, close as closed, put as
 ghost use Rattle.document.specs.Outline.{values};
 ghost use Rattle.document.specs.Law.{so-much, refusal};
 ghost use Rattle.document.specs.Standing.{standing, memory-lent, Kept, Grown, Took};
+use crate::cells::add_close_in;
 use crate::cells::depth_with;
 use crate::cells::inside_of;
 use crate::cells::raise_in;
@@ -117,5 +118,21 @@ impl<'a> Store<'a> {
         ensures { λ r. ⌜ Took (now (self .entry)) (began (tag (label .entry)) (sharing share target)) (length (values (standing (now (self .entry))))) r (now (self .exit)) ⌝ }
     {
         self.begin(label, shared(share, target))
+    }
+
+    // Closes the innermost open value.
+    pub fn close(&mut self) -> Result<(), Reason>
+        requires { ⌜ Kept (now self) ⌝ }
+        ensures { λ r. ⌜ Took (now (self .entry)) closed tt r (now (self .exit)) ⌝ }
+    {
+        let Node::At(number) = self.innermost else {
+            return Err(Reason::NothingThere);
+        };
+        let holder = self.cells.get(number).holder;
+        let last = self.cells.count() - 1;
+        add_close_in(&mut self.cells, last);
+        self.innermost = holder;
+        self.depth -= 1;
+        Ok(())
     }
 }
