@@ -11,3 +11,4 @@ pub mod Checked
 pub mod Within
 pub mod Adding
 pub mod Undone
+pub mod Closing

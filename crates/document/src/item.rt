@@ -43,7 +43,9 @@ pub fn value_ok(value: Value<'_>) -> bool
         Value::Integer(_) => true,
         Value::Float(_) => true,
         Value::Text {
-            head, codepoints, ..
+            head,
+            codepoints,
+            ..
         } => head < FIELD_END && codepoints_ok(codepoints),
     }
 }
@@ -97,11 +99,13 @@ pub fn sort_of(item: Item<'_>, from: u32) -> Sort
         Item::Put(Value::Char(point)) => Sort::Char(point),
         Item::Put(Value::Integer(n)) => Sort::Integer(n),
         Item::Put(Value::Float(bits)) => Sort::Float(bits),
-        Item::Put(Value::Text {
-            kind,
-            head,
-            codepoints,
-        }) => Sort::Text {
+        Item::Put(
+            Value::Text {
+                kind,
+                head,
+                codepoints,
+            },
+        ) => Sort::Text {
             kind,
             head,
             codepoints: Span {

@@ -31,7 +31,9 @@ use refusal::Reason;
 
 // Of the memory that is lent, no more than this is used.
 const CELLS: u32 = 16_384;
+
 const CODEPOINTS: u32 = 262_144;
+
 const NAME_BYTES: u32 = 65_536;
 
 impl<'a> Store<'a> {
@@ -125,14 +127,16 @@ impl<'a> Store<'a> {
         requires { ⌜ Kept (now self) ⌝ }
         ensures { λ r. ⌜ Took (now (self .entry)) closed tt r (now (self .exit)) ⌝ }
     {
-        let Node::At(number) = self.innermost else {
-            return Err(Reason::NothingThere);
-        };
-        let holder = self.cells.get(number).holder;
-        let last = self.cells.count() - 1;
-        add_close_in(&mut self.cells, last);
-        self.innermost = holder;
-        self.depth -= 1;
-        Ok(())
+        match self.innermost {
+            Node::Root => Err(Reason::NothingThere),
+            Node::At(number) => {
+                let holder = self.cells.get(number).holder;
+                let last = self.cells.count() - 1;
+                add_close_in(&mut self.cells, last);
+                self.innermost = holder;
+                self.depth -= 1;
+                Ok(())
+            }
+        }
     }
 }
