@@ -60,6 +60,17 @@ fn open(store: &mut Store<'_>, holder: Holder) -> Result<u32, Reason>
     store.open(label, holder)
 }
 
+fn share(store: &mut Store<'_>, share: Share, target: Node) -> Result<u32, Reason>
+    requires { ⌜ Kept (now store) ⌝ }
+    ensures { λ _. ⌜ Kept (now (store .exit)) ⌝ }
+{
+    let label = Label {
+        new_line: true,
+        name: b"",
+    };
+    store.share(label, share, target)
+}
+
 fn refused(answer: Result<u32, Reason>, number: u32) -> bool {
     match answer {
         Ok(_) => false,
@@ -166,4 +177,73 @@ fn memory() -> Result<(), Fail> {
         names: &mut names,
     });
     fill(&mut store, &[65; 4])
+}
+
+// Of 16,385 cells 16,384 are used.
+fn fill_cells(store: &mut Store<'_>) -> Result<(), Fail>
+    requires { ⌜ Kept (now store) ⌝ }
+{
+    for _ in 0..16_384 {
+        check(put(store, b"", nothing()).is_ok())?;
+    }
+    check(refused(put(store, b"", nothing()), 14))
+}
+
+#[test]
+fn limit() -> Result<(), Fail> {
+    let mut cells = [FREE; 16_385];
+    let mut codepoints = [0u32; 1];
+    let mut names = [0u8; 1];
+    let mut store = Store::new(Memories {
+        cells: &mut cells,
+        codepoints: &mut codepoints,
+        names: &mut names,
+    });
+    fill_cells(&mut store)
+}
+
+// A share's target is a value of its family that is no share, and may still be open.
+fn try_shares(store: &mut Store<'_>) -> Result<(), Fail>
+    requires { ⌜ Kept (now store) ⌝ }
+    ensures { λ _. ⌜ Kept (now (store .exit)) ⌝ }
+{
+    let list = Share::List {
+        kind: ListKind::Paren,
+        head: 1,
+    };
+    let object = Share::Object { owner: true };
+    check(refused(share(store, list, Node::At(0)), 19))?;
+    check(open(store, LIST).is_ok())?;
+    check(refused(share(store, object, Node::At(0)), 19))?;
+    check(refused(share(store, list, Node::Root), 19))?;
+    check(share(store, list, Node::At(0)).is_ok())?;
+    check(refused(share(store, list, Node::At(1)), 19))?;
+    check(refused(share(store, list, Node::At(2)), 19))
+}
+
+// What was begun and closed is taken back, step by step.
+fn take_all_back(store: &mut Store<'_>) -> Result<(), Fail>
+    requires { ⌜ Kept (now store) ⌝ }
+{
+    check(store.close().is_ok())?;
+    check(put_text(store, b"", &[65, 66]).is_ok())?;
+    for _ in 0..4 {
+        check(store.take_back().is_ok())?;
+    }
+    check(store.take_back().is_err())?;
+    check(store.close().is_err())
+}
+
+#[test]
+fn shares_and_back() -> Result<(), Fail> {
+    let mut cells = [FREE; 3];
+    let mut codepoints = [0u32; 2];
+    let mut names = [0u8; 1];
+    let mut store = Store::new(Memories {
+        cells: &mut cells,
+        codepoints: &mut codepoints,
+        names: &mut names,
+    });
+    try_shares(&mut store)?;
+    take_all_back(&mut store)
 }
