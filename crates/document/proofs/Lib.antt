@@ -12,3 +12,4 @@ pub mod Within
 pub mod Adding
 pub mod Undone
 pub mod Closing
+pub mod Reading

@@ -248,3 +248,24 @@ begun-object (share s t) = false
 
 abbrev pub sort-is-object : Sort → Bool
 sort-is-object s = begun-object (begun-of [] s)
+
+-- the part of the codepoints that a value of this sort has, and the value that it is with these
+abbrev pub span-of : Sort → Span
+span-of Nothing = record { start = 0; len = 0 }
+span-of (Logic b) = record { start = 0; len = 0 }
+span-of (Char n) = record { start = 0; len = 0 }
+span-of (Integer z) = record { start = 0; len = 0 }
+span-of (Float n) = record { start = 0; len = 0 }
+span-of (Text k h s) = s
+span-of (Open h n) = record { start = 0; len = 0 }
+span-of (Share s t) = record { start = 0; len = 0 }
+
+abbrev pub begun-with : Sort → List ℕ → Begun
+begun-with Nothing ps = put none
+begun-with (Logic b) ps = put (logic b)
+begun-with (Char n) ps = put (char n)
+begun-with (Integer z) ps = put (integer z)
+begun-with (Float n) ps = put (float n)
+begun-with (Text k h s) ps = put (text k h ps)
+begun-with (Open h n) ps = open′ h
+begun-with (Share s t) ps = share s t

@@ -88,6 +88,15 @@ unfoldable pub entry-at : List Entry → ℕ → Option Entry
 entry-at [] n = None
 entry-at (x ∷ xs) n = cond (eqb n (length xs)) (Some x) (entry-at xs n)
 
+-- its label, and its holder
+abbrev pub label-in : Option Entry → Option Tag
+label-in None = None
+label-in (Some x) = Some (x .label)
+
+abbrev pub holder-in : Option Entry → Option Node
+holder-in None = None
+holder-in (Some x) = Some (x .holder)
+
 -- the value of a number
 unfoldable pub begun-at : List Entry → ℕ → Option Begun
 begun-at [] n = None

@@ -4,12 +4,13 @@ ghost use Prim.Native.Nat.{ℕ, _+_, _-_, _^_, _<_};
 ghost use lib.ListN.{length};
 ghost use Rattle.document.specs.Adjust.{adjust};
 ghost use Rattle.document.specs.Items.{items, Sound, Sized};
-ghost use Rattle.document.specs.Build.{more, less, shut, unshut, count-in, adjust-at, inside, deeper, shallower, Under, Raisable, cell-at, holders, up, ups, cut-at, sort-suits, sort-is-object};
+ghost use Rattle.document.specs.Build.{more, less, shut, unshut, count-in, adjust-at, inside, deeper, shallower, Under, Raisable, cell-at, holders, up, ups, cut-at, sort-suits, sort-is-object, span-of};
 use crate::parts::Cell;
 use crate::parts::Family;
 use crate::parts::Holder;
 use crate::parts::Node;
 use crate::parts::Sort;
+use crate::parts::Span;
 use crate::pile::Pile;
 
 // The cell with one more inner value, if it can hold any.
@@ -163,6 +164,16 @@ pub fn codepoints_before(sort: Sort, all: u32) -> u32
     match sort {
         Sort::Text { codepoints, .. } => codepoints.start,
         _ => all,
+    }
+}
+
+// The part of the codepoints that a value of this sort has.
+pub fn span_of(sort: Sort) -> Span
+    ensures { λ r. ⌜ r ≡ span-of sort ⌝ }
+{
+    match sort {
+        Sort::Text { codepoints, .. } => codepoints,
+        _ => Span { start: 0, len: 0 },
     }
 }
 

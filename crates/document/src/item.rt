@@ -6,7 +6,7 @@ ghost use Rattle.document.specs.Given.{content, begun};
 ghost use Rattle.document.specs.Steps.{open′ as opening, share as sharing};
 ghost use Rattle.document.specs.Outline.{share-family};
 ghost use Rattle.document.specs.Law.{codepoints-ok, content-ok, holder-ok, share-ok, codepoints-of};
-ghost use Rattle.document.specs.Build.{sort-of};
+ghost use Rattle.document.specs.Build.{sort-of, begun-with};
 use crate::parts::Family;
 use crate::parts::Holder;
 use crate::parts::Item;
@@ -128,4 +128,24 @@ pub fn shared<'v>(share: Share, target: Node) -> Item<'v>
     ensures { λ r. ⌜ begun r ≡ sharing share target ⌝ }
 {
     Item::Share(share, target)
+}
+
+// The value of a cell of this sort that has these codepoints.
+pub fn item_of<'v>(sort: Sort, codepoints: &'v [u32]) -> Item<'v>
+    ensures { λ r. ⌜ begun r ≡ begun-with sort (now (codepoints .entry)) ⌝ }
+{
+    match sort {
+        Sort::Nothing => Item::Put(Value::Nothing),
+        Sort::Logic(b) => Item::Put(Value::Logic(b)),
+        Sort::Char(point) => Item::Put(Value::Char(point)),
+        Sort::Integer(n) => Item::Put(Value::Integer(n)),
+        Sort::Float(bits) => Item::Put(Value::Float(bits)),
+        Sort::Text { kind, head, .. } => Item::Put(Value::Text {
+            kind,
+            head,
+            codepoints,
+        }),
+        Sort::Open { holder, .. } => Item::Open(holder),
+        Sort::Share { share, target } => Item::Share(share, target),
+    }
 }

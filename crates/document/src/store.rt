@@ -5,6 +5,7 @@ use crate::pile::Pile;
 mod backs;
 mod checks;
 mod edits;
+mod reads;
 
 // The memories that an owner lends to a store.
 #[derive(Drop)]
