@@ -1,14 +1,5 @@
-pub mod Texts
-pub mod Ranged
-pub mod Piled
-pub mod Adjusted
-pub mod Held
-pub mod Told
-pub mod Good
-pub mod Entered
 pub mod Agreed
 pub mod Checked
-pub mod Within
 pub mod Adding
 pub mod Undone
 pub mod Closing

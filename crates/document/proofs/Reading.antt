@@ -5,18 +5,18 @@ use Prim.Native.Nat.{ℕ, _+_, _<_, _≤_}
 use native.Mathlib.Omega.{arith}
 use lib.ListN.{length}
 use Rattle.std.specs.declared.option.Option.the-variants.{Some, None}
-use Rattle.document.specs.declared.parts.Sort.{Sort}
-use Rattle.document.specs.declared.parts.Sort.the-variants.{Nothing, Logic, Char, Integer, Float, Text, Open, Share}
-use Rattle.document.specs.declared.parts.Cell.{Cell}
+use Rattle.steps.specs.declared.parts.Sort.{Sort}
+use Rattle.steps.specs.declared.parts.Sort.the-variants.{Nothing, Logic, Char, Integer, Float, Text, Open, Share}
+use Rattle.steps.specs.declared.parts.Cell.{Cell}
 use Rattle.document.specs.declared.store.Store.{Store}
-use Rattle.document.specs.Steps.{Begun}
-use Rattle.document.specs.Outline.{values, entry-at, begun-at}
-use Rattle.document.specs.Items.{items}
-use Rattle.document.specs.Build.{entry-of, cell-at, blank, part, begun-of, span-of, begun-with}
+use Rattle.steps.specs.Steps.{Begun}
+use Rattle.steps.specs.Outline.{values, entry-at, begun-at}
+use Rattle.steps.specs.Items.{items}
+use Rattle.steps.specs.Build.{entry-of, cell-at, blank, part, begun-of, span-of, begun-with}
 use Rattle.document.specs.Standing.{in-use, standing, Kept}
-use Rattle.document.proofs.Told.{SortFine, CellFine}
-use Rattle.document.proofs.Good.{each-at}
-use Rattle.document.proofs.Entered.{entry-cell, entry-none, begun-entry, begun-in}
+use Rattle.steps.proofs.Told.{SortFine, CellFine}
+use Rattle.steps.proofs.Good.{each-at}
+use Rattle.steps.proofs.Entered.{entry-cell, entry-none, begun-entry, begun-in}
 use Rattle.document.proofs.Agreed.{value-count}
 use Rattle.document.proofs.Checked.{kept-agrees}
 

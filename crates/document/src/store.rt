@@ -1,6 +1,6 @@
-use crate::parts::Cell;
-use crate::parts::Node;
-use crate::pile::Pile;
+use steps::parts::Cell;
+use steps::parts::Node;
+use steps::pile::Pile;
 
 mod backs;
 mod checks;

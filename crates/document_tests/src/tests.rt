@@ -1,9 +1,9 @@
 // The boundaries of the law, and memory used again.
 ghost use Rattle.document.specs.Standing.{Kept};
-use document::parts::*;
 use document::store::*;
 use refusal::Reason;
 use std::test::*;
+use steps::parts::*;
 
 const LIST: Holder = Holder::List {
     kind: ListKind::Block,

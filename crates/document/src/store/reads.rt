@@ -3,15 +3,15 @@ ghost use mathlib.Core.Path.{_≡_};
 ghost use lib.ListN.{length};
 ghost use Rattle.std.specs.declared.option.Option.the-variants.{Some as some, None as nothing};
 ghost use Rattle.std.specs.Options.{Cases};
-ghost use Rattle.document.specs.Given.{tag, begun};
-ghost use Rattle.document.specs.Outline.{values, entry-at, begun-at, label-in, holder-in};
+ghost use Rattle.steps.specs.Given.{tag, begun};
+ghost use Rattle.steps.specs.Outline.{values, entry-at, begun-at, label-in, holder-in};
 ghost use Rattle.document.specs.Standing.{standing, Kept};
-use crate::cells::span_of;
-use crate::item::item_of;
-use crate::parts::Item;
-use crate::parts::Label;
-use crate::parts::Node;
 use crate::store::Store;
+use steps::cells::span_of;
+use steps::item::item_of;
+use steps::parts::Item;
+use steps::parts::Label;
+use steps::parts::Node;
 
 impl<'a> Store<'a> {
     // How many values have begun.

@@ -1,8 +1,8 @@
 use mathlib.Core.Path.{sym, ap, _∙_}
 use native.Mathlib.Omega.{arith}
 use Rattle.std.specs.declared.option.Option.the-variants.{Some}
-use Rattle.document.specs.Outline.{holder-in}
-use Rattle.document.specs.Build.{blank}
+use Rattle.steps.specs.Outline.{holder-in}
+use Rattle.steps.specs.Build.{blank}
 use Rattle.document.proofs.Reading.{read-at, read-none}
 use Rattle.document.proofs.store.Store.holder_of.Needs as need
 

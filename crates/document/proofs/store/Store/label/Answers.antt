@@ -3,9 +3,9 @@ use Prim.Native.Nat.{_+_, _<_, _≤_}
 use native.Mathlib.Omega.{arith}
 use lib.ListN.{length}
 use Rattle.std.specs.declared.option.Option.the-variants.{Some}
-use Rattle.document.specs.Outline.{label-in}
-use Rattle.document.specs.Items.{items}
-use Rattle.document.specs.Build.{blank, part}
+use Rattle.steps.specs.Outline.{label-in}
+use Rattle.steps.specs.Items.{items}
+use Rattle.steps.specs.Build.{blank, part}
 use Rattle.document.proofs.Reading.{read-at, read-none, fine-at}
 use Rattle.document.proofs.store.Store.label.Needs as need
 

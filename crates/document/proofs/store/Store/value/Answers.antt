@@ -2,9 +2,9 @@ use mathlib.Core.Path.{_≡_, sym, ap, subst, _∙_}
 use Prim.Native.Nat.{_+_, _<_, _≤_}
 use native.Mathlib.Omega.{arith}
 use lib.ListN.{length}
-use Rattle.document.specs.Given.{begun}
-use Rattle.document.specs.Items.{items}
-use Rattle.document.specs.Build.{blank, part}
+use Rattle.steps.specs.Given.{begun}
+use Rattle.steps.specs.Items.{items}
+use Rattle.steps.specs.Build.{blank, part}
 use Rattle.document.proofs.Reading.{begun-none, begun-read, span-within}
 use Rattle.document.proofs.store.Store.value.Needs as need
 
