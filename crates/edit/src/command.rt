@@ -1,11 +1,11 @@
 // Commands: what a line asks for.
 use crate::words;
-use document::parts::Holder;
-use document::parts::Share;
-use document::parts::TextKind;
-use document::parts::Value;
 use std::alloc::AllocError;
 use std::alloc::Global;
+use steps::parts::Holder;
+use steps::parts::Share;
+use steps::parts::TextKind;
+use steps::parts::Value;
 
 // What a put holds.
 #[derive(Drop)]

@@ -6,15 +6,15 @@ use command::Sizes;
 use command::read_command;
 use command::read_memory;
 use command::words_of;
-use document::parts::FREE;
-use document::parts::Label;
-use document::parts::Node;
 use document::store::Memories;
 use gillsieve::draft::Draft;
 use refusal::Refusal;
 use refusal::show::RefusalDisplay;
 use std::error::AnyError;
 use std::io;
+use steps::parts::FREE;
+use steps::parts::Label;
+use steps::parts::Node;
 
 mod command;
 mod words;

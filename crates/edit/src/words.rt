@@ -1,8 +1,8 @@
 // What the words of a command stand for. None: a word that stands for nothing.
-use document::parts::ListKind;
-use document::parts::TextKind;
 use std::alloc::AllocError;
 use std::alloc::Global;
+use steps::parts::ListKind;
+use steps::parts::TextKind;
 
 // A decimal number that fits 32 bits.
 pub fn number(word: &str) -> Option<u32> {
