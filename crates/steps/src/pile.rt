@@ -8,7 +8,7 @@ ghost use Rattle.steps.specs.Items.{items, Sound, Sized, room};
 // The first `used` elements of a memory that its owner lends. It never uses more than `bound`.
 #[derive(Drop)]
 pub struct Pile<'a, T> {
-    pub memory: &'a mut [T],
+    pub(crate) memory: &'a mut [T],
     used: usize,
     bound: usize,
 }
