@@ -67,7 +67,7 @@ after-own : (xs ys : List ℕ) → after xs (xs ++ ys) ≡ Some ys
 after-own [] ys = refl
 after-own (x ∷ xs) ys = rw (eq-eqb x x refl) (after-own xs ys)
 
-same-own : (xs : List ℕ) → same xs xs ≡ true
+pub same-own : (xs : List ℕ) → same xs xs ≡ true
 same-own [] = refl
 same-own (x ∷ xs) = rw (eq-eqb x x refl) (same-own xs)
 

@@ -33,7 +33,7 @@ after-front (x ∷ xs) (b ∷ bs) ys e =
     let k = after-front xs bs ys (i .1) in
     cc
 
-same-lists : (xs ys : List ℕ) → same xs ys ≡ true → xs ≡ ys
+pub same-lists : (xs ys : List ℕ) → same xs ys ≡ true → xs ≡ ys
 same-lists [] [] e = refl
 same-lists [] (y ∷ ys) e = absurd (both-ways false refl e)
 same-lists (x ∷ xs) [] e = absurd (both-ways false refl e)

@@ -1,0 +1,4 @@
+pub mod Oldest
+pub mod Names
+pub mod Values
+pub mod Givings
