@@ -1,0 +1,2 @@
+// The file format: canonical form and reading.
+pub mod form;
