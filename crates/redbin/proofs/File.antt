@@ -52,7 +52,7 @@ roots : {e : Steps} (w : Whole [] e) → inner-names (values e) Root ≡ names w
 unfolding inner-names
 roots w = whole-names w
 
-start-reads : (flag : ℕ) (more : List ℕ) → not (eqb flag 0 || eqb flag 4) ≡ false → 8 ≤ length more → length (letters ++ (2 ∷ flag ∷ more)) ≤ 1048576
+pub start-reads : (flag : ℕ) (more : List ℕ) → not (eqb flag 0 || eqb flag 4) ≡ false → 8 ≤ length more → length (letters ++ (2 ∷ flag ∷ more)) ≤ 1048576
     → start-of-file (letters ++ (2 ∷ flag ∷ more)) (rd (letters ++ (2 ∷ flag ∷ more)) []) ≡ got tt (rd more [])
 unfolding start-of-file skip same
 start-reads flag more f l small =

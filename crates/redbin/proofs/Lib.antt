@@ -16,3 +16,6 @@ pub mod Kept
 pub mod Loaded
 pub mod Elsewhere
 pub mod Meant
+pub mod Loops
+mod Long
+pub mod Examples

@@ -1,5 +1,6 @@
 // The file format of documents: what a file means, and the one file that stands for given steps.
 ghost use Rattle.redbin.specs.Promises.{Canonical-reads-back, Canonical-tells-apart, Load-is-lawful, Load-gives-file-steps, Paths-lead};
+ghost use Rattle.redbin.specs.Examples.{Examples};
 
 pub mod form;
 
@@ -28,4 +29,9 @@ pub fn load_gives_file_steps()
 // The canonical path of a value leads to it.
 pub fn paths_lead()
     ensures { λ _. ⌜ Paths-lead ⌝ }
+{}
+
+// Files in numbers, and what the definitions make of them.
+pub fn worked_examples()
+    ensures { λ _. ⌜ Examples ⌝ }
 {}
