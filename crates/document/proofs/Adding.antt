@@ -11,22 +11,22 @@ use Rattle.std.specs.declared.option.Option.{Option}
 use Rattle.std.specs.declared.option.Option.the-variants.{Some, None}
 use Rattle.refusal.specs.declared.Reason.{Reason}
 use Rattle.refusal.specs.declared.Reason.the-variants.{TooDeep, NoMemory, NotAllowed, BadName}
-use Rattle.document.specs.declared.parts.Node.{Node}
-use Rattle.document.specs.declared.parts.Node.the-variants.{Root, At}
-use Rattle.document.specs.declared.parts.Sort.{Sort}
-use Rattle.document.specs.declared.parts.Sort.the-variants.{Nothing, Logic, Char, Integer, Float, Text, Open, Share}
-use Rattle.document.specs.declared.parts.Cell.{Cell}
-use Rattle.document.specs.declared.pile.Pile.{Pile}
+use Rattle.steps.specs.declared.parts.Node.{Node}
+use Rattle.steps.specs.declared.parts.Node.the-variants.{Root, At}
+use Rattle.steps.specs.declared.parts.Sort.{Sort}
+use Rattle.steps.specs.declared.parts.Sort.the-variants.{Nothing, Logic, Char, Integer, Float, Text, Open, Share}
+use Rattle.steps.specs.declared.parts.Cell.{Cell}
+use Rattle.steps.specs.declared.pile.Pile.{Pile}
 use Rattle.document.specs.declared.store.Store.{Store}
-use Rattle.document.specs.Steps.{Tag, Begun, Step, begin, close, Steps}
-use Rattle.document.specs.Outline.{values, opened}
-use Rattle.document.specs.Law.{Memory, so-much, usable, cells, points, names, used, deepest, unless, has-room, need, name-ok, begun-ok, refusal, codepoints-of}
-use Rattle.document.specs.Items.{items, lent, room, Sound, Sized}
-use Rattle.document.specs.Build.{Built, more, adjust-at, sort-of, new-cell, inside, deeper, apply, count-in, cell-at, blank, Under, Raisable}
+use Rattle.steps.specs.Steps.{Tag, Begun, Step, begin, close, Steps}
+use Rattle.steps.specs.Outline.{values, opened}
+use Rattle.steps.specs.Law.{Memory, so-much, usable, cells, points, names, used, deepest, unless, has-room, need, name-ok, begun-ok, refusal, codepoints-of}
+use Rattle.steps.specs.Items.{items, lent, room, Sound, Sized}
+use Rattle.steps.specs.Build.{Built, more, adjust-at, sort-of, new-cell, inside, deeper, apply, count-in, cell-at, blank, Under, Raisable}
 use Rattle.document.specs.Standing.{in-use, standing, memory-lent, Stands, Kept, Grown}
-use Rattle.document.proofs.Told.{SortFine, CellFine}
-use Rattle.document.proofs.Good.{each-at}
-use Rattle.document.proofs.Piled.{uses, fits}
+use Rattle.steps.proofs.Told.{SortFine, CellFine}
+use Rattle.steps.proofs.Good.{each-at}
+use Rattle.steps.proofs.Piled.{uses, fits}
 use Rattle.document.proofs.Agreed.{Added, added}
 use Rattle.document.proofs.Checked.{kept-agrees}
 

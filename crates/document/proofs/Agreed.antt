@@ -10,18 +10,18 @@ use Rattle.std.proofs.shelf.Lists.{length-append}
 use Rattle.std.specs.declared.option.Option.{Option}
 use Rattle.std.specs.declared.option.Option.the-variants.{Some, None}
 use Rattle.refusal.specs.declared.Reason.the-variants.{NothingThere}
-use Rattle.document.specs.declared.parts.Node.{Node}
-use Rattle.document.specs.declared.parts.Node.the-variants.{Root, At}
-use Rattle.document.specs.declared.parts.Cell.{Cell}
-use Rattle.document.specs.Steps.{Tag, none, logic, char, integer, float, text, Begun, put, open′, share, Step, begin, close, Steps}
-use Rattle.document.specs.Outline.{Entry, Opened, innermost, opening, values, opened, entry-at}
-use Rattle.document.specs.Law.{Memory, cells, points, names, used, codepoints-of, refusal, unless, Lawful}
-use Rattle.document.specs.Build.{Built, more, shut, adjust-at, sort-of, new-cell, apply, build, inside, deeper, holder-at, cell-at, part, begun-of, entry-of, steps}
+use Rattle.steps.specs.declared.parts.Node.{Node}
+use Rattle.steps.specs.declared.parts.Node.the-variants.{Root, At}
+use Rattle.steps.specs.declared.parts.Cell.{Cell}
+use Rattle.steps.specs.Steps.{Tag, none, logic, char, integer, float, text, Begun, put, open′, share, Step, begin, close, Steps}
+use Rattle.steps.specs.Outline.{Entry, Opened, innermost, opening, values, opened, entry-at}
+use Rattle.steps.specs.Law.{Memory, cells, points, names, used, codepoints-of, refusal, unless, Lawful}
+use Rattle.steps.specs.Build.{Built, more, shut, adjust-at, sort-of, new-cell, apply, build, inside, deeper, holder-at, cell-at, part, begun-of, entry-of, steps}
 use Rattle.document.specs.Standing.{Stands}
-use Rattle.document.proofs.Adjusted.{length-adjust, length-adjust-at}
-use Rattle.document.proofs.Told.{entries, tell-push, tell-adjust-at, tell-shut, tell-grow, entries-push, entries-adjust, entries-adjust-at, entries-grow, part-end, begun-end}
-use Rattle.document.proofs.Good.{Good, good-begin, good-close, is-at, some-first}
-use Rattle.document.proofs.Entered.{Linked, linked, length-entries, entry-cell}
+use Rattle.steps.proofs.Adjusted.{length-adjust, length-adjust-at}
+use Rattle.steps.proofs.Told.{entries, tell-push, tell-adjust-at, tell-shut, tell-grow, entries-push, entries-adjust, entries-adjust-at, entries-grow, part-end, begun-end}
+use Rattle.steps.proofs.Good.{Good, good-begin, good-close, is-at, some-first}
+use Rattle.steps.proofs.Entered.{Linked, linked, length-entries, entry-cell}
 
 pub record Agrees (e : Steps) (m : Built) : Type 0 where
   pub good : Good m

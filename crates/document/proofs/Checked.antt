@@ -10,21 +10,21 @@ use Rattle.std.proofs.shelf.Tests.{lt-ltb, le-ltb}
 use Rattle.std.specs.declared.option.Option.{Option}
 use Rattle.std.specs.declared.option.Option.the-variants.{Some, None}
 use Rattle.refusal.specs.declared.Reason.the-variants.{TooDeep, NoMemory, NothingThere, BadName, NotAllowed}
-use Rattle.document.specs.declared.parts.Family.{Family}
-use Rattle.document.specs.declared.parts.Node.{Node}
-use Rattle.document.specs.declared.parts.Node.the-variants.{Root, At}
-use Rattle.document.specs.declared.parts.Sort.{Sort}
-use Rattle.document.specs.declared.parts.Sort.the-variants.{Nothing, Logic, Char, Integer, Float, Text, Open, Share}
-use Rattle.document.specs.declared.parts.Cell.{Cell}
+use Rattle.steps.specs.declared.parts.Family.{Family}
+use Rattle.steps.specs.declared.parts.Node.{Node}
+use Rattle.steps.specs.declared.parts.Node.the-variants.{Root, At}
+use Rattle.steps.specs.declared.parts.Sort.{Sort}
+use Rattle.steps.specs.declared.parts.Sort.the-variants.{Nothing, Logic, Char, Integer, Float, Text, Open, Share}
+use Rattle.steps.specs.declared.parts.Cell.{Cell}
 use Rattle.document.specs.declared.store.Store.{Store}
-use Rattle.document.specs.Steps.{open′, Tag, Begun, begin, Steps}
-use Rattle.document.specs.Outline.{Entry, Opened, innermost, in-object, values, opened, entry-at, begun-at, own-family, begun-suits, has-family}
-use Rattle.document.specs.Law.{Memory, so-much, usable, cells, points, names, used, deepest, has-room, need, name-ok, begun-ok, refusal}
-use Rattle.document.specs.Items.{items, room}
-use Rattle.document.specs.Build.{begun-of, entry-of, cell-at, Under, sort-suits, sort-is-object, begun-object, steps}
+use Rattle.steps.specs.Steps.{open′, Tag, Begun, begin, Steps}
+use Rattle.steps.specs.Outline.{Entry, Opened, innermost, in-object, values, opened, entry-at, begun-at, own-family, begun-suits, has-family}
+use Rattle.steps.specs.Law.{Memory, so-much, usable, cells, points, names, used, deepest, has-room, need, name-ok, begun-ok, refusal}
+use Rattle.steps.specs.Items.{items, room}
+use Rattle.steps.specs.Build.{begun-of, entry-of, cell-at, Under, sort-suits, sort-is-object, begun-object, steps}
 use Rattle.document.specs.Standing.{in-use, standing, memory-lent, Kept}
-use Rattle.document.proofs.Told.{entries}
-use Rattle.document.proofs.Entered.{Linked, linked, length-entries, entry-cell, entry-none, begun-entry, begun-in}
+use Rattle.steps.proofs.Told.{entries}
+use Rattle.steps.proofs.Entered.{Linked, linked, length-entries, entry-cell, entry-none, begun-entry, begun-in}
 use Rattle.document.proofs.Agreed.{Agrees, stands-agrees}
 
 pub kept-agrees : (s : Store) → Kept s → Agrees (standing s) (in-use s)

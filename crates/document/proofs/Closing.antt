@@ -9,17 +9,17 @@ use lib.ListN.{length}
 use Rattle.std.proofs.shelf.Tests.{lt-ltb}
 use Rattle.std.specs.declared.option.Option.the-variants.{Some, None}
 use Rattle.refusal.specs.declared.Reason.the-variants.{NothingThere}
-use Rattle.document.specs.declared.parts.Node.{Node}
-use Rattle.document.specs.declared.parts.Node.the-variants.{Root, At}
+use Rattle.steps.specs.declared.parts.Node.{Node}
+use Rattle.steps.specs.declared.parts.Node.the-variants.{Root, At}
 use Rattle.document.specs.declared.store.Store.{Store}
-use Rattle.document.specs.Adjust.{adjust}
-use Rattle.document.specs.Steps.{close}
-use Rattle.document.specs.Outline.{Opened, innermost, opened}
-use Rattle.document.specs.Law.{unless, refusal}
-use Rattle.document.specs.Items.{items}
-use Rattle.document.specs.Build.{Built, shut, apply, holder-at, cell-at, last, Under}
+use Rattle.steps.specs.Adjust.{adjust}
+use Rattle.steps.specs.Steps.{close}
+use Rattle.steps.specs.Outline.{Opened, innermost, opened}
+use Rattle.steps.specs.Law.{unless, refusal}
+use Rattle.steps.specs.Items.{items}
+use Rattle.steps.specs.Build.{Built, shut, apply, holder-at, cell-at, last, Under}
 use Rattle.document.specs.Standing.{in-use, standing, memory-lent, Kept}
-use Rattle.document.proofs.Good.{Deep}
+use Rattle.steps.proofs.Good.{Deep}
 use Rattle.document.proofs.Checked.{kept-agrees, open-under}
 use Rattle.document.proofs.Adding.{same-built}
 

@@ -1,15 +1,7 @@
-pub mod Texts
-pub mod Ranged
-pub mod Piled
-pub mod Adjusted
-pub mod Held
-pub mod Told
-pub mod Good
-pub mod Entered
 pub mod Agreed
 pub mod Checked
-pub mod Within
 pub mod Adding
 pub mod Undone
 pub mod Closing
 pub mod Propositions
+pub mod Reading

@@ -8,12 +8,12 @@ use base.Stored.{coded-set, codedℕ, codedList}
 use denote.Struct.Props.{three-prop}
 use Rattle.std.specs.contracts.option.Option.{the-row as option-row}
 use Rattle.refusal.specs.contracts.Reason.{the-row as reason-row}
-use Rattle.document.specs.contracts.parts.Cell.{the-row as cell-row}
-use Rattle.document.specs.contracts.parts.Node.{the-row as node-row}
+use Rattle.steps.specs.contracts.parts.Cell.{the-row as cell-row}
+use Rattle.steps.specs.contracts.parts.Node.{the-row as node-row}
 use Rattle.document.specs.declared.store.Store.{Store}
-use Rattle.document.specs.Steps.{Steps}
-use Rattle.document.specs.Law.{Memory, Lawful}
-use Rattle.document.specs.Build.{Built, build, steps}
+use Rattle.steps.specs.Steps.{Steps}
+use Rattle.steps.specs.Law.{Memory, Lawful}
+use Rattle.steps.specs.Build.{Built, build, steps}
 use Rattle.document.specs.Standing.{Stands, Kept, in-use, memory-lent}
 
 built-set : (a b : Built) → IsProp (a ≡ b)

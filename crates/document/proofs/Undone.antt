@@ -10,23 +10,23 @@ use Rattle.std.proofs.shelf.Lists.{length-append, take-at, take-all, append-nil
 use Rattle.std.proofs.shelf.Tests.{ltb-true}
 use Rattle.std.specs.declared.option.Option.{Option}
 use Rattle.std.specs.declared.option.Option.the-variants.{Some, None}
-use Rattle.document.specs.declared.parts.Node.{Node}
-use Rattle.document.specs.declared.parts.Node.the-variants.{Root, At}
-use Rattle.document.specs.declared.parts.Sort.{Sort}
-use Rattle.document.specs.declared.parts.Sort.the-variants.{Nothing, Logic, Char, Integer, Float, Text, Open, Share}
-use Rattle.document.specs.declared.parts.Cell.{Cell}
+use Rattle.steps.specs.declared.parts.Node.{Node}
+use Rattle.steps.specs.declared.parts.Node.the-variants.{Root, At}
+use Rattle.steps.specs.declared.parts.Sort.{Sort}
+use Rattle.steps.specs.declared.parts.Sort.the-variants.{Nothing, Logic, Char, Integer, Float, Text, Open, Share}
+use Rattle.steps.specs.declared.parts.Cell.{Cell}
 use Rattle.document.specs.declared.store.Store.{Store}
-use Rattle.document.specs.Adjust.{adjust}
-use Rattle.document.specs.Steps.{Tag, none, logic, char, integer, float, text, Begun, put, open′, share, Step, begin, close, Steps}
-use Rattle.document.specs.Outline.{Opened, innermost, opened}
-use Rattle.document.specs.Law.{Memory, codepoints-of, deepest, refusal, Lawful}
-use Rattle.document.specs.Items.{items, Sound, Sized}
-use Rattle.document.specs.Build.{Built, more, less, shut, unshut, more-in, less-in, adjust-at, sort-of, new-cell, inside, deeper, shallower, apply, build, steps, tell, last, holders, ups, cell-at, blank, empty, cut-at, Under}
+use Rattle.steps.specs.Adjust.{adjust}
+use Rattle.steps.specs.Steps.{Tag, none, logic, char, integer, float, text, Begun, put, open′, share, Step, begin, close, Steps}
+use Rattle.steps.specs.Outline.{Opened, innermost, opened}
+use Rattle.steps.specs.Law.{Memory, codepoints-of, deepest, refusal, Lawful}
+use Rattle.steps.specs.Items.{items, Sound, Sized}
+use Rattle.steps.specs.Build.{Built, more, less, shut, unshut, more-in, less-in, adjust-at, sort-of, new-cell, inside, deeper, shallower, apply, build, steps, tell, last, holders, ups, cell-at, blank, empty, cut-at, Under}
 use Rattle.document.specs.Standing.{in-use, standing, memory-lent, Stands, Kept, Shrunk}
-use Rattle.document.proofs.Adjusted.{length-adjust}
-use Rattle.document.proofs.Held.{holders-adjust, length-holders, holders-at, below-at}
-use Rattle.document.proofs.Told.{SortFine, CellFine}
-use Rattle.document.proofs.Good.{Good, last-push, last-adjust, is-at, some-first, each-at, start}
+use Rattle.steps.proofs.Adjusted.{length-adjust}
+use Rattle.steps.proofs.Held.{holders-adjust, length-holders, holders-at, below-at}
+use Rattle.steps.proofs.Told.{SortFine, CellFine}
+use Rattle.steps.proofs.Good.{Good, last-push, last-adjust, is-at, some-first, each-at, start}
 use Rattle.document.proofs.Agreed.{Agrees, agrees-build, stands-build, open-at}
 use Rattle.document.proofs.Checked.{kept-agrees}
 use Rattle.document.proofs.Adding.{built, same-built, same-memory, keeps, passed}

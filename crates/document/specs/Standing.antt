@@ -6,10 +6,10 @@ use Rattle.std.specs.declared.result.Result.{Result}
 use Rattle.std.specs.declared.result.Result.the-variants.{Ok, Err}
 use Rattle.refusal.specs.declared.Reason.{Reason}
 use Rattle.document.specs.declared.store.Store.{Store}
-use Rattle.document.specs.Steps.{Step, Steps}
-use Rattle.document.specs.Law.{Memory, so-much, limit, cells, points, names, Lawful, Stepped, Unstepped}
-use Rattle.document.specs.Items.{items, lent, Sound}
-use Rattle.document.specs.Build.{Built, build, steps}
+use Rattle.steps.specs.Steps.{Step, Steps}
+use Rattle.steps.specs.Law.{Memory, so-much, limit, cells, points, names, Lawful, Stepped, Unstepped}
+use Rattle.steps.specs.Items.{items, lent, Sound}
+use Rattle.steps.specs.Build.{Built, build, steps}
 
 -- the part of a store that is in use
 abbrev pub in-use : Store → Built

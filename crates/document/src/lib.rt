@@ -1,6 +1,1 @@
-mod cells;
-mod item;
-pub mod name;
-pub mod parts;
-mod pile;
 pub mod store;

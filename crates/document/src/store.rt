@@ -1,10 +1,11 @@
-use crate::parts::Cell;
-use crate::parts::Node;
-use crate::pile::Pile;
+use steps::parts::Cell;
+use steps::parts::Node;
+use steps::pile::Pile;
 
 mod backs;
 mod checks;
 mod edits;
+mod reads;
 
 // The memories that an owner lends to a store.
 #[derive(Drop)]

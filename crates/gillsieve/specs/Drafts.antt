@@ -1,6 +1,6 @@
 -- What a draft holds.
-use Rattle.document.specs.Steps.{Steps}
-use Rattle.document.specs.Law.{Memory}
+use Rattle.steps.specs.Steps.{Steps}
+use Rattle.steps.specs.Law.{Memory}
 use Rattle.document.specs.Standing.{standing, memory-lent}
 use Rattle.gillsieve.specs.declared.draft.Draft.{Draft}
 

@@ -1,8 +1,8 @@
 -- Reading into a draft.
 use mathlib.Core.List.{List}
 use Prim.Native.Nat.{ℕ}
-use Rattle.document.specs.Steps.{Name}
-use Rattle.document.specs.Law.{Memory}
+use Rattle.steps.specs.Steps.{Name}
+use Rattle.steps.specs.Law.{Memory}
 use Rattle.redbin.specs.Reading.{Setting, in-memory}
 
 pub record InDraft : Type 0 where

@@ -9,9 +9,9 @@ use lib.ListN.{length}
 use Rattle.std.proofs.shelf.Tests.{lt-ltb}
 use Rattle.std.specs.declared.result.Result.{Result}
 use Rattle.std.specs.declared.result.Result.the-variants.{Ok, Err}
-use Rattle.document.specs.Steps.{Step, Steps, begin, close}
-use Rattle.document.specs.Outline.{opened}
-use Rattle.document.specs.Law.{deepest, Memory, need, used, usable, limit, Lawful, Closed}
+use Rattle.steps.specs.Steps.{Step, Steps, begin, close}
+use Rattle.steps.specs.Outline.{opened}
+use Rattle.steps.specs.Law.{deepest, Memory, need, used, usable, limit, Lawful, Closed}
 use Rattle.redbin.specs.Canonical.{canonical}
 use Rattle.redbin.specs.Reading.{load}
 use Rattle.redbin.specs.Promises.{Fits, Writable, Canonical-reads-back, Canonical-tells-apart, Load-is-lawful}

@@ -1,7 +1,7 @@
 -- The worked examples, computed.
 use mathlib.Core.Path.{_≡_, refl}
 use lib.Dec.{lit<}
-use Rattle.document.specs.Outline.{inner, inner-names, begun-at, nth, walk, path-of}
+use Rattle.steps.specs.Outline.{inner, inner-names, begun-at, nth, walk, path-of}
 use Rattle.redbin.specs.Bytes.{bytes-of, number, fields, all-below, same}
 use Rattle.redbin.specs.Canonical.{unit, index-of, without, once, written-names, symbols, record-of, strings, offsets, canonical}
 use Rattle.redbin.specs.Reading.{after, refuse-when, skip, push, here, enough, below, series, run, announced, named-by, heading-of, behind-padding, heading, room, target, add-share, add-text, on-boundary, add-float, each, hold, add-list, add-context, add-object, content, value, until-zero, name-or-refuse, names-at, symbol-table, start-of-file, records, whole-file, read}

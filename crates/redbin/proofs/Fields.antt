@@ -8,7 +8,7 @@ use lib.Dec.{eqb, ltb, leb}
 use lib.ListN.{length, take, drop, length-append}
 use Rattle.std.proofs.shelf.Lists.{take-at, drop-at}
 use Rattle.std.proofs.shelf.Tests.{le-ltb, lt-ltb}
-use Rattle.document.specs.Steps.{Steps}
+use Rattle.steps.specs.Steps.{Steps}
 use Rattle.redbin.specs.Bytes.{bytes-of, number, fields, words}
 use Rattle.redbin.specs.Reading.{Reader, Read, Reads, got, refused, after, refuse-when, here, enough, below, series, run}
 use Rattle.refusal.specs.declared.Part.{Part}

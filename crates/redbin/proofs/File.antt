@@ -9,10 +9,10 @@ use lib.ListN.{length, length-append, replicate}
 use Rattle.std.proofs.shelf.Tests.{le-ltb, or-from}
 use Rattle.std.specs.declared.option.Option.{Option}
 use Rattle.std.specs.declared.option.Option.the-variants.{Some, None}
-use Rattle.document.specs.Law.{Memory, Lawful, Closed}
-use Rattle.document.specs.Outline.{values, opened, inner-names}
-use Rattle.document.specs.Steps.{Steps, Step, Name, begin, close}
-use Rattle.document.specs.declared.parts.Node.the-variants.{Root}
+use Rattle.steps.specs.Law.{Memory, Lawful, Closed}
+use Rattle.steps.specs.Outline.{values, opened, inner-names}
+use Rattle.steps.specs.Steps.{Steps, Step, Name, begin, close}
+use Rattle.steps.specs.declared.parts.Node.the-variants.{Root}
 use Rattle.redbin.proofs.Drafted.{InDraft, in-draft}
 use Rattle.redbin.proofs.Fields.{rd, then, refuse-passes, field-reads, field-last, length-fields}
 use Rattle.redbin.proofs.Holders.{reading}

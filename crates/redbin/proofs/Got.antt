@@ -9,12 +9,12 @@ use lib.ListN.{length, take, drop}
 use Rattle.std.proofs.shelf.Tests.{ltb-true}
 use Rattle.std.specs.declared.option.Option.{Option}
 use Rattle.std.specs.declared.option.Option.the-variants.{Some, None}
-use Rattle.document.specs.Law.{need, Memory, has-room}
-use Rattle.document.specs.Outline.{Entry, values, suits, follow}
-use Rattle.document.specs.Steps.{Steps, Step, Name, Tag, Content, begin, close, put, open′, share}
-use Rattle.document.specs.Utf8.{lawful-name}
-use Rattle.document.specs.declared.parts.Family.{Family}
-use Rattle.document.specs.declared.parts.Node.{Node}
+use Rattle.steps.specs.Law.{need, Memory, has-room}
+use Rattle.steps.specs.Outline.{Entry, values, suits, follow}
+use Rattle.steps.specs.Steps.{Steps, Step, Name, Tag, Content, begin, close, put, open′, share}
+use Rattle.steps.specs.Utf8.{lawful-name}
+use Rattle.steps.specs.declared.parts.Family.{Family}
+use Rattle.steps.specs.declared.parts.Node.{Node}
 use Rattle.redbin.proofs.Drafted.{InDraft, in-draft}
 use Rattle.redbin.proofs.Fields.{Below}
 use Rattle.redbin.specs.Bytes.{number}

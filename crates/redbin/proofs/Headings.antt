@@ -8,11 +8,11 @@ use native.Mathlib.Omega.{arith}
 use lib.Dec.{eqb, ltb, leb, lit<}
 use lib.ListN.{length, take, drop, length-append}
 use Rattle.std.proofs.shelf.Tests.{le-ltb, lt-ltb, ne-eqb}
-use Rattle.document.specs.Steps.{Steps}
-use Rattle.document.specs.declared.parts.ListKind.the-variants.{Paren, LitPath, GetPath, Block, Path, SetPath}
-use Rattle.document.specs.declared.parts.ListKind.{ListKind}
-use Rattle.document.specs.declared.parts.TextKind.the-variants.{File, Url, String}
-use Rattle.document.specs.declared.parts.TextKind.{TextKind}
+use Rattle.steps.specs.Steps.{Steps}
+use Rattle.steps.specs.declared.parts.ListKind.the-variants.{Paren, LitPath, GetPath, Block, Path, SetPath}
+use Rattle.steps.specs.declared.parts.ListKind.{ListKind}
+use Rattle.steps.specs.declared.parts.TextKind.the-variants.{File, Url, String}
+use Rattle.steps.specs.declared.parts.TextKind.{TextKind}
 use Rattle.redbin.proofs.Drafted.{InDraft, in-draft}
 use Rattle.redbin.proofs.Fields.{rd, then, refuse-passes, field-reads, length-fields}
 use Rattle.redbin.specs.Bytes.{bytes-of, number, fields, words}

@@ -9,13 +9,13 @@ use lib.ListN.{length, replicate, length-map}
 use Rattle.std.proofs.shelf.Tests.{ltb-true, leb-true, and-parts}
 use Rattle.std.specs.declared.option.Option.{Option}
 use Rattle.std.specs.declared.option.Option.the-variants.{Some, None}
-use Rattle.document.specs.Law.{need, Memory, has-room, holder-ok}
-use Rattle.document.specs.Outline.{Entry, values, inner-names}
-use Rattle.document.specs.Steps.{Steps, Tag, Name, begin, close, put, open′, share}
-use Rattle.document.specs.declared.parts.Holder.the-variants.{Object as OfObject, List as OfList}
-use Rattle.document.specs.declared.parts.Holder.{Holder}
-use Rattle.document.specs.declared.parts.ListKind.{ListKind}
-use Rattle.document.specs.declared.parts.Node.the-variants.{At}
+use Rattle.steps.specs.Law.{need, Memory, has-room, holder-ok}
+use Rattle.steps.specs.Outline.{Entry, values, inner-names}
+use Rattle.steps.specs.Steps.{Steps, Tag, Name, begin, close, put, open′, share}
+use Rattle.steps.specs.declared.parts.Holder.the-variants.{Object as OfObject, List as OfList}
+use Rattle.steps.specs.declared.parts.Holder.{Holder}
+use Rattle.steps.specs.declared.parts.ListKind.{ListKind}
+use Rattle.steps.specs.declared.parts.Node.the-variants.{At}
 use Rattle.redbin.proofs.Drafted.{InDraft, in-draft}
 use Rattle.redbin.proofs.Fields.{rd, then, refuse-passes, field-reads, field-last, run-reads, Below}
 use Rattle.redbin.proofs.Headings.{heading-reads}

@@ -10,17 +10,17 @@ use lib.ListN.{length, getD, replicate}
 use Rattle.std.proofs.shelf.Tests.{ltb-true, ltb-false, lt-ltb, and-from}
 use Rattle.std.specs.declared.option.Option.{Option}
 use Rattle.std.specs.declared.option.Option.the-variants.{Some, None}
-use Rattle.document.specs.Law.{codepoint-end, codepoints-ok, need, Memory, Lawful, Closed, refusal, name-ok, begun-ok, content-ok, holder-ok, share-ok, has-room}
-use Rattle.document.specs.Outline.{Opened, values, opened, in-object, suits, share-family}
-use Rattle.document.specs.Steps.{Steps, Step, Name, Tag, Content, Begun, none, logic, char, integer, float, text, begin, close, put, open′, share}
-use Rattle.document.specs.Utf8.{lawful-name}
-use Rattle.document.specs.declared.parts.Holder.the-variants.{Object as OfObject, List as OfList}
-use Rattle.document.specs.declared.parts.Holder.{Holder}
-use Rattle.document.specs.declared.parts.ListKind.{ListKind}
-use Rattle.document.specs.declared.parts.Node.{Node}
-use Rattle.document.specs.declared.parts.Share.the-variants.{Text as ShareText, Object as ShareObject, List as ShareList}
-use Rattle.document.specs.declared.parts.Share.{Share}
-use Rattle.document.specs.declared.parts.TextKind.{TextKind}
+use Rattle.steps.specs.Law.{codepoint-end, codepoints-ok, need, Memory, Lawful, Closed, refusal, name-ok, begun-ok, content-ok, holder-ok, share-ok, has-room}
+use Rattle.steps.specs.Outline.{Opened, values, opened, in-object, suits, share-family}
+use Rattle.steps.specs.Steps.{Steps, Step, Name, Tag, Content, Begun, none, logic, char, integer, float, text, begin, close, put, open′, share}
+use Rattle.steps.specs.Utf8.{lawful-name}
+use Rattle.steps.specs.declared.parts.Holder.the-variants.{Object as OfObject, List as OfList}
+use Rattle.steps.specs.declared.parts.Holder.{Holder}
+use Rattle.steps.specs.declared.parts.ListKind.{ListKind}
+use Rattle.steps.specs.declared.parts.Node.{Node}
+use Rattle.steps.specs.declared.parts.Share.the-variants.{Text as ShareText, Object as ShareObject, List as ShareList}
+use Rattle.steps.specs.declared.parts.Share.{Share}
+use Rattle.steps.specs.declared.parts.TextKind.{TextKind}
 use Rattle.redbin.proofs.Drafted.{InDraft, in-draft}
 use Rattle.redbin.proofs.Fields.{Below}
 use Rattle.redbin.proofs.Got.{Came, came, here-got, refuse-got, below-got, run-got, heading-got, room-got, push-got, target-got, boundary-got, add-got}

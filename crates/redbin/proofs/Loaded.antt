@@ -8,10 +8,10 @@ use lib.Dec.{eqb, ltb, leb}
 use lib.ListN.{length, getD, take, drop, replicate}
 use Rattle.std.specs.declared.option.Option.{Option}
 use Rattle.std.specs.declared.option.Option.the-variants.{Some, None}
-use Rattle.document.specs.Law.{Memory, Lawful, Closed}
-use Rattle.document.specs.Outline.{opened}
-use Rattle.document.specs.Steps.{Steps, Name}
-use Rattle.document.specs.Utf8.{lawful-name}
+use Rattle.steps.specs.Law.{Memory, Lawful, Closed}
+use Rattle.steps.specs.Outline.{opened}
+use Rattle.steps.specs.Steps.{Steps, Name}
+use Rattle.steps.specs.Utf8.{lawful-name}
 use Rattle.redbin.proofs.Drafted.{InDraft, in-draft}
 use Rattle.redbin.proofs.Got.{Came, came, same-reader, same-value, here-got, refuse-got, enough-got, below-got, run-got}
 use Rattle.redbin.proofs.Kept.{Kept, each-kept, empty-ok, value-kept}

@@ -11,7 +11,7 @@ use Rattle.refusal.specs.declared.Reason.{Reason}
 use Rattle.refusal.specs.declared.Reason.the-variants.{Large}
 use Rattle.refusal.specs.declared.Part.{Part}
 use Rattle.refusal.specs.declared.Part.the-variants.{Header}
-use Rattle.document.specs.Law.{limit, field-end}
+use Rattle.steps.specs.Law.{limit, field-end}
 use Rattle.redbin.specs.Bytes.{fields, words, same}
 use Rattle.redbin.specs.Layout.{largest-file}
 use Rattle.redbin.specs.Reading.{Reader, Read, Reads, got, refused, after, because, refuse-when, start-of-file, records, whole-file, answer, read}

@@ -3,7 +3,7 @@ use mathlib.Core.Path.{_≡_, refl, sym, ap, _∙_}
 use mathlib.Core.List.{List, [], _∷_, _++_}
 use Prim.Native.Nat.{ℕ, zero, suc, _+_, _≤_, _<_}
 use native.Mathlib.Omega.{arith}
-use Rattle.document.specs.Steps.{Name}
+use Rattle.steps.specs.Steps.{Name}
 use Rattle.redbin.proofs.Fields.{then}
 use Rattle.redbin.proofs.Got.{Came, came, same-reader, same-value}
 use Rattle.redbin.proofs.Records.{each-append}

@@ -8,14 +8,14 @@ use lib.Dec.{eqb}
 use lib.ListN.{length, replicate, getD}
 use Rattle.std.specs.declared.result.Result.{Result}
 use Rattle.std.specs.declared.result.Result.the-variants.{Ok, Err}
-use Rattle.document.specs.declared.parts.ListKind.{ListKind}
-use Rattle.document.specs.declared.parts.TextKind.{TextKind}
-use Rattle.document.specs.declared.parts.Holder.{Holder}
-use Rattle.document.specs.declared.parts.Holder.the-variants.{List as OfList, Object as OfObject}
-use Rattle.document.specs.declared.parts.Share.{Share}
-use Rattle.document.specs.Steps.{Name, Tag, Content, none, logic, char, integer, float, text, Steps, begin, put, open′, share, close}
-use Rattle.document.specs.Outline.{share-family}
-use Rattle.document.specs.Law.{Memory, need, has-room, deepest}
+use Rattle.steps.specs.declared.parts.ListKind.{ListKind}
+use Rattle.steps.specs.declared.parts.TextKind.{TextKind}
+use Rattle.steps.specs.declared.parts.Holder.{Holder}
+use Rattle.steps.specs.declared.parts.Holder.the-variants.{List as OfList, Object as OfObject}
+use Rattle.steps.specs.declared.parts.Share.{Share}
+use Rattle.steps.specs.Steps.{Name, Tag, Content, none, logic, char, integer, float, text, Steps, begin, put, open′, share, close}
+use Rattle.steps.specs.Outline.{share-family}
+use Rattle.steps.specs.Law.{Memory, need, has-room, deepest}
 use Rattle.redbin.specs.declared.form.Form.{Form}
 use Rattle.redbin.specs.declared.form.Form.the-variants.{Nothing as is-none, Logic as is-logic, Char as is-char, Integer as is-integer, Float as is-float, Text as is-text, List as is-list, Object as is-object, ShareText as shares-text, ShareList as shares-list, ShareObject as shares-object}
 use Rattle.redbin.specs.Layout.{flags-place, table-flag}

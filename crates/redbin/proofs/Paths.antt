@@ -10,11 +10,11 @@ use lib.ListN.{length, length-append}
 use Rattle.std.proofs.shelf.Tests.{ne-eqb, eq-eqb, eqb-true, eqb-false}
 use Rattle.std.specs.declared.option.Option.{Option}
 use Rattle.std.specs.declared.option.Option.the-variants.{Some, None}
-use Rattle.document.specs.Outline.{Entry, Opened, Outline, outline, values, opened, innermost, opening, same-holder, inner, begun-at, has-family, own-family, begun-suits, suits, target-or, through, at-place, nth, onward, walk, follow, way, path-of, path-to}
-use Rattle.document.specs.Steps.{Steps, Step, Tag, Begun, begin, close, put, open′, share}
-use Rattle.document.specs.declared.parts.Family.{Family}
-use Rattle.document.specs.declared.parts.Node.the-variants.{At, Root}
-use Rattle.document.specs.declared.parts.Node.{Node}
+use Rattle.steps.specs.Outline.{Entry, Opened, Outline, outline, values, opened, innermost, opening, same-holder, inner, begun-at, has-family, own-family, begun-suits, suits, target-or, through, at-place, nth, onward, walk, follow, way, path-of, path-to}
+use Rattle.steps.specs.Steps.{Steps, Step, Tag, Begun, begin, close, put, open′, share}
+use Rattle.steps.specs.declared.parts.Family.{Family}
+use Rattle.steps.specs.declared.parts.Node.the-variants.{At, Root}
+use Rattle.steps.specs.declared.parts.Node.{Node}
 use Rattle.redbin.proofs.Fields.{Below}
 use Rattle.redbin.proofs.Puts.{below-more}
 use Rattle.redbin.specs.Promises.{Paths-lead}

@@ -9,10 +9,10 @@ use lib.Dec.{eqb, ltb, leb, lit<, lit≤}
 use lib.IntN.{ℤ, pos, negsuc}
 use lib.ListN.{length, take, drop, length-append, replicate, length-replicate}
 use Rattle.std.proofs.shelf.Tests.{and-from, le-leb, le-ltb, lt-ltb, ne-eqb, eq-eqb, eqb-true, eqb-false, ltb-true, leb-true, and-parts, cases-bool}
-use Rattle.document.specs.Law.{Kind, cells, points, names, every-kind, need, Memory, codepoint-end, codepoints-ok, content-ok, has-room, used, usable}
-use Rattle.document.specs.Outline.{Entry}
-use Rattle.document.specs.Steps.{Steps, Tag, Name, Content, none, logic, char, integer, float, text, begin, put, Begun}
-use Rattle.document.specs.declared.parts.TextKind.{TextKind}
+use Rattle.steps.specs.Law.{Kind, cells, points, names, every-kind, need, Memory, codepoint-end, codepoints-ok, content-ok, has-room, used, usable}
+use Rattle.steps.specs.Outline.{Entry}
+use Rattle.steps.specs.Steps.{Steps, Tag, Name, Content, none, logic, char, integer, float, text, begin, put, Begun}
+use Rattle.steps.specs.declared.parts.TextKind.{TextKind}
 use Rattle.redbin.proofs.Drafted.{InDraft, in-draft}
 use Rattle.redbin.proofs.Fields.{rd, then, field-reads, field-last, below-reads, run-reads, Below, length-fields, length-bytes}
 use Rattle.redbin.proofs.Headings.{heading-reads, heading-last, padded-reads}

@@ -10,15 +10,15 @@ use lib.ListN.{length, length-append, replicate, length-map, length-replicate}
 use Rattle.std.proofs.shelf.Tests.{and-parts}
 use Rattle.std.specs.declared.option.Option.{Option}
 use Rattle.std.specs.declared.option.Option.the-variants.{Some, None}
-use Rattle.document.specs.Law.{Memory, begun-ok, content-ok, holder-ok, share-ok, has-room}
-use Rattle.document.specs.Outline.{Entry, values, opened, in-object, same-holder, inner-names, path-of, suits, share-family}
-use Rattle.document.specs.Steps.{Steps, Step, Name, Tag, Content, Begun, none, logic, char, integer, float, text, begin, close, put, open′, share}
-use Rattle.document.specs.declared.parts.Holder.the-variants.{Object as OfObject, List as OfList}
-use Rattle.document.specs.declared.parts.Holder.{Holder}
-use Rattle.document.specs.declared.parts.Node.the-variants.{At}
-use Rattle.document.specs.declared.parts.Node.{Node}
-use Rattle.document.specs.declared.parts.Share.the-variants.{Text as ShareText, Object as ShareObject, List as ShareList}
-use Rattle.document.specs.declared.parts.Share.{Share}
+use Rattle.steps.specs.Law.{Memory, begun-ok, content-ok, holder-ok, share-ok, has-room}
+use Rattle.steps.specs.Outline.{Entry, values, opened, in-object, same-holder, inner-names, path-of, suits, share-family}
+use Rattle.steps.specs.Steps.{Steps, Step, Name, Tag, Content, Begun, none, logic, char, integer, float, text, begin, close, put, open′, share}
+use Rattle.steps.specs.declared.parts.Holder.the-variants.{Object as OfObject, List as OfList}
+use Rattle.steps.specs.declared.parts.Holder.{Holder}
+use Rattle.steps.specs.declared.parts.Node.the-variants.{At}
+use Rattle.steps.specs.declared.parts.Node.{Node}
+use Rattle.steps.specs.declared.parts.Share.the-variants.{Text as ShareText, Object as ShareObject, List as ShareList}
+use Rattle.steps.specs.declared.parts.Share.{Share}
 use Rattle.redbin.proofs.Drafted.{InDraft, in-draft}
 use Rattle.redbin.proofs.Fields.{rd, then, length-fields, length-bytes}
 use Rattle.redbin.proofs.Holders.{reading, list-reads, object-reads}

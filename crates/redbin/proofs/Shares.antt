@@ -7,13 +7,13 @@ use native.Mathlib.Omega.{arith}
 use lib.Dec.{eqb, ltb, leb, lit<, lit≤}
 use lib.ListN.{length}
 use Rattle.std.proofs.shelf.Tests.{ltb-true, leb-true, and-parts}
-use Rattle.document.specs.Law.{cells, need, Memory, has-room, share-ok, used, usable}
-use Rattle.document.specs.Outline.{Entry, values, suits, share-family, follow, path-to}
-use Rattle.document.specs.Steps.{Begun, none, logic, char, integer, float, text, Steps, Tag, Name, begin, close, put, open′, share}
-use Rattle.document.specs.declared.parts.Family.{Family}
-use Rattle.document.specs.declared.parts.Node.{Node}
-use Rattle.document.specs.declared.parts.Share.the-variants.{Text as ShareText, List as ShareList, Object as ShareObject}
-use Rattle.document.specs.declared.parts.Share.{Share}
+use Rattle.steps.specs.Law.{cells, need, Memory, has-room, share-ok, used, usable}
+use Rattle.steps.specs.Outline.{Entry, values, suits, share-family, follow, path-to}
+use Rattle.steps.specs.Steps.{Begun, none, logic, char, integer, float, text, Steps, Tag, Name, begin, close, put, open′, share}
+use Rattle.steps.specs.declared.parts.Family.{Family}
+use Rattle.steps.specs.declared.parts.Node.{Node}
+use Rattle.steps.specs.declared.parts.Share.the-variants.{Text as ShareText, List as ShareList, Object as ShareObject}
+use Rattle.steps.specs.declared.parts.Share.{Share}
 use Rattle.redbin.proofs.Drafted.{InDraft, in-draft}
 use Rattle.redbin.proofs.Fields.{rd, then, field-reads, run-reads, Below}
 use Rattle.redbin.proofs.Headings.{heading-reads}

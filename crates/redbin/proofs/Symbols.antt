@@ -10,9 +10,9 @@ use lib.ListN.{length, getD}
 use Rattle.std.proofs.shelf.Tests.{eq-eqb, eqb-true, and-parts, and-from}
 use Rattle.std.specs.declared.option.Option.{Option}
 use Rattle.std.specs.declared.option.Option.the-variants.{Some, None}
-use Rattle.document.specs.Outline.{Entry, inner-names}
-use Rattle.document.specs.Steps.{Name, Steps, open′}
-use Rattle.document.specs.declared.parts.Holder.the-variants.{Object as OfObject}
+use Rattle.steps.specs.Outline.{Entry, inner-names}
+use Rattle.steps.specs.Steps.{Name, Steps, open′}
+use Rattle.steps.specs.declared.parts.Holder.the-variants.{Object as OfObject}
 use Rattle.redbin.proofs.Fields.{Below}
 use Rattle.redbin.proofs.Parts.{Within, all-of, later}
 use Rattle.redbin.specs.Bytes.{same}

@@ -10,13 +10,13 @@ use Rattle.std.proofs.shelf.Lists.{take-at, drop-at}
 use Rattle.std.proofs.shelf.Tests.{and-parts, ltb-true}
 use Rattle.std.specs.declared.option.Option.{Option}
 use Rattle.std.specs.declared.option.Option.the-variants.{Some, None}
-use Rattle.document.specs.Law.{Memory, Lawful, name-ok}
-use Rattle.document.specs.Outline.{Entry, Opened, values, opened, in-object, inner-names}
-use Rattle.document.specs.Steps.{Steps, Step, Name, Tag, begin, close, put, open′, share}
-use Rattle.document.specs.Utf8.{lawful-name, no-zero}
-use Rattle.document.specs.declared.parts.Holder.the-variants.{Object as OfObject, List as OfList}
-use Rattle.document.specs.declared.parts.Holder.{Holder}
-use Rattle.document.specs.declared.parts.Node.the-variants.{At}
+use Rattle.steps.specs.Law.{Memory, Lawful, name-ok}
+use Rattle.steps.specs.Outline.{Entry, Opened, values, opened, in-object, inner-names}
+use Rattle.steps.specs.Steps.{Steps, Step, Name, Tag, begin, close, put, open′, share}
+use Rattle.steps.specs.Utf8.{lawful-name, no-zero}
+use Rattle.steps.specs.declared.parts.Holder.the-variants.{Object as OfObject, List as OfList}
+use Rattle.steps.specs.declared.parts.Holder.{Holder}
+use Rattle.steps.specs.declared.parts.Node.the-variants.{At}
 use Rattle.redbin.proofs.Fields.{rd, then, field-reads, run-reads, enough-reads, Below, length-fields}
 use Rattle.redbin.proofs.Parts.{Part-of, part-tail, part-start, start-lawful, holder-names}
 use Rattle.redbin.proofs.Puts.{below-more}

@@ -11,13 +11,13 @@ use Rattle.refusal.specs.declared.Part.{Part}
 use Rattle.refusal.specs.declared.Part.the-variants.{Header, Symbols, Record, Reference, Draft}
 use Rattle.refusal.specs.declared.Refusal.{Refusal}
 use Rattle.refusal.specs.Numbers.{number}
-use Rattle.document.specs.declared.parts.TextKind.the-variants.{String, File, Url}
-use Rattle.document.specs.declared.parts.ListKind.the-variants.{Block, Paren, Path, LitPath, SetPath, GetPath}
-use Rattle.document.specs.declared.parts.Node.the-variants.{At}
-use Rattle.document.specs.declared.parts.Holder.the-variants.{List as OfList, Object as OfObject}
-use Rattle.document.specs.declared.parts.Share.the-variants.{List as ShareList, Text as ShareText, Object as ShareObject}
-use Rattle.document.specs.Steps.{Name, Tag, none, logic, char, integer, float, text, Begun, put, open′, share, Step, begin, close, Steps}
-use Rattle.document.specs.Law.{Memory, so-much, limit}
+use Rattle.steps.specs.declared.parts.TextKind.the-variants.{String, File, Url}
+use Rattle.steps.specs.declared.parts.ListKind.the-variants.{Block, Paren, Path, LitPath, SetPath, GetPath}
+use Rattle.steps.specs.declared.parts.Node.the-variants.{At}
+use Rattle.steps.specs.declared.parts.Holder.the-variants.{List as OfList, Object as OfObject}
+use Rattle.steps.specs.declared.parts.Share.the-variants.{List as ShareList, Text as ShareText, Object as ShareObject}
+use Rattle.steps.specs.Steps.{Name, Tag, none, logic, char, integer, float, text, Begun, put, open′, share, Step, begin, close, Steps}
+use Rattle.steps.specs.Law.{Memory, so-much, limit}
 use Rattle.redbin.specs.Bytes.{words}
 use Rattle.redbin.specs.Canonical.{canonical}
 use Rattle.redbin.specs.Reading.{load, file-steps}

@@ -2,10 +2,10 @@
 use mathlib.Core.Bool.{Bool, cond}
 use mathlib.Core.List.{List, [], _∷_}
 use Prim.Native.Nat.{ℕ, _+_, _-_, _*_}
-use Rattle.document.specs.declared.parts.TextKind.{TextKind}
-use Rattle.document.specs.declared.parts.TextKind.the-variants.{String, File, Url}
-use Rattle.document.specs.declared.parts.ListKind.{ListKind}
-use Rattle.document.specs.declared.parts.ListKind.the-variants.{Block, Paren, Path, LitPath, SetPath, GetPath}
+use Rattle.steps.specs.declared.parts.TextKind.{TextKind}
+use Rattle.steps.specs.declared.parts.TextKind.the-variants.{String, File, Url}
+use Rattle.steps.specs.declared.parts.ListKind.{ListKind}
+use Rattle.steps.specs.declared.parts.ListKind.the-variants.{Block, Paren, Path, LitPath, SetPath, GetPath}
 use Rattle.redbin.specs.declared.form.Form.{Form}
 use Rattle.redbin.specs.declared.form.Form.the-variants.{Nothing, Logic, Char, Integer, Float, Text, List as OfList, Object as OfObject, ShareText, ShareList, ShareObject}
 use Rattle.redbin.specs.Bytes.{bit}

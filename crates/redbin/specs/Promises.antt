@@ -5,9 +5,9 @@ use Prim.Native.Nat.{ℕ, _≤_, _<_}
 use lib.ListN.{length}
 use Rattle.std.specs.declared.option.Option.the-variants.{Some}
 use Rattle.std.specs.declared.result.Result.the-variants.{Ok}
-use Rattle.document.specs.Steps.{Steps}
-use Rattle.document.specs.Outline.{values, through, follow, path-of}
-use Rattle.document.specs.Law.{Kind, Memory, used, usable, Lawful, Closed}
+use Rattle.steps.specs.Steps.{Steps}
+use Rattle.steps.specs.Outline.{values, through, follow, path-of}
+use Rattle.steps.specs.Law.{Kind, Memory, used, usable, Lawful, Closed}
 use Rattle.redbin.specs.Layout.{largest-file}
 use Rattle.redbin.specs.Canonical.{canonical}
 use Rattle.redbin.specs.Reading.{load, file-steps}

@@ -15,20 +15,20 @@ use Rattle.refusal.specs.declared.Reason.the-variants.{NotRedbin, Version, Flag
 use Rattle.refusal.specs.declared.Part.{Part}
 use Rattle.refusal.specs.declared.Part.the-variants.{Header, Symbols, Record, Reference, Draft}
 use Rattle.refusal.specs.declared.Refusal.{Refusal}
-use Rattle.document.specs.declared.parts.TextKind.{TextKind}
-use Rattle.document.specs.declared.parts.TextKind.the-variants.{String, File, Url}
-use Rattle.document.specs.declared.parts.ListKind.{ListKind}
-use Rattle.document.specs.declared.parts.ListKind.the-variants.{Block, Paren, Path, LitPath, SetPath, GetPath}
-use Rattle.document.specs.declared.parts.Node.{Node}
-use Rattle.document.specs.declared.parts.Family.{Family}
-use Rattle.document.specs.declared.parts.Holder.{Holder}
-use Rattle.document.specs.declared.parts.Holder.the-variants.{List as OfList, Object as OfObject}
-use Rattle.document.specs.declared.parts.Share.{Share}
-use Rattle.document.specs.declared.parts.Share.the-variants.{List as ShareList, Text as ShareText, Object as ShareObject}
-use Rattle.document.specs.Utf8.{lawful-name}
-use Rattle.document.specs.Steps.{Name, Tag, Content, none, logic, char, integer, float, text, Begun, put, open′, share, Step, begin, close, Steps}
-use Rattle.document.specs.Outline.{Entry, values, suits, follow, share-family}
-use Rattle.document.specs.Law.{Memory, so-much, has-room, need, codepoint-end, field-end, deepest}
+use Rattle.steps.specs.declared.parts.TextKind.{TextKind}
+use Rattle.steps.specs.declared.parts.TextKind.the-variants.{String, File, Url}
+use Rattle.steps.specs.declared.parts.ListKind.{ListKind}
+use Rattle.steps.specs.declared.parts.ListKind.the-variants.{Block, Paren, Path, LitPath, SetPath, GetPath}
+use Rattle.steps.specs.declared.parts.Node.{Node}
+use Rattle.steps.specs.declared.parts.Family.{Family}
+use Rattle.steps.specs.declared.parts.Holder.{Holder}
+use Rattle.steps.specs.declared.parts.Holder.the-variants.{List as OfList, Object as OfObject}
+use Rattle.steps.specs.declared.parts.Share.{Share}
+use Rattle.steps.specs.declared.parts.Share.the-variants.{List as ShareList, Text as ShareText, Object as ShareObject}
+use Rattle.steps.specs.Utf8.{lawful-name}
+use Rattle.steps.specs.Steps.{Name, Tag, Content, none, logic, char, integer, float, text, Begun, put, open′, share, Step, begin, close, Steps}
+use Rattle.steps.specs.Outline.{Entry, values, suits, follow, share-family}
+use Rattle.steps.specs.Law.{Memory, so-much, has-room, need, codepoint-end, field-end, deepest}
 use Rattle.redbin.specs.declared.form.Form.{Form}
 use Rattle.redbin.specs.declared.form.Form.the-variants.{Nothing as is-none, Logic as is-logic, Char as is-char, Integer as is-integer, Float as is-float, Text as is-text, List as is-list, Object as is-object, ShareText as shares-text, ShareList as shares-list, ShareObject as shares-object}
 use Rattle.redbin.specs.Bytes.{bit, number, fill, same}

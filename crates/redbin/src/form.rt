@@ -1,5 +1,5 @@
-use document::parts::ListKind;
-use document::parts::TextKind;
+use steps::parts::ListKind;
+use steps::parts::TextKind;
 
 // What the header of a value's record announces. A text has codepoints of `unit` bytes each.
 #[derive(Clone, Copy)]

@@ -1,6 +1,8 @@
 ghost use mathlib.Core.Path.{_≡_};
 ghost use Rattle.refusal.specs.Numbers.{number as number-of};
 
+pub mod show;
+
 // Why a call is refused. People and programs name a reason by its number.
 #[derive(Clone, Copy, PartialEq, Eq, Debug)]
 pub enum Reason {

@@ -2,18 +2,18 @@
 ghost use mathlib.Core.Path.{_≡_};
 ghost use Prim.Native.Nat.{_+_, _<_};
 ghost use lib.ListN.{length};
-ghost use Rattle.document.specs.Items.{items};
-ghost use Rattle.document.specs.Build.{cell-at};
+ghost use Rattle.steps.specs.Items.{items};
+ghost use Rattle.steps.specs.Build.{cell-at};
 ghost use Rattle.document.specs.Standing.{Kept, Shrunk, TookBack};
-use crate::cells::climb;
-use crate::cells::codepoints_before;
-use crate::cells::depth_without;
-use crate::cells::drop_close_in;
-use crate::cells::inside_of;
-use crate::cells::lower_in;
-use crate::parts::Cell;
 use crate::store::Store;
 use refusal::Reason;
+use steps::cells::climb;
+use steps::cells::codepoints_before;
+use steps::cells::depth_without;
+use steps::cells::drop_close_in;
+use steps::cells::inside_of;
+use steps::cells::lower_in;
+use steps::parts::Cell;
 
 impl<'a> Store<'a> {
     // Takes back the newest step.

@@ -1,25 +1,25 @@
 // What the law asks of a step, part by part.
 ghost use mathlib.Core.Path.{_≡_};
 ghost use lib.ListN.{length};
-ghost use Rattle.document.specs.Given.{tag, begun};
-ghost use Rattle.document.specs.Steps.{begin};
-ghost use Rattle.document.specs.Outline.{values, opened, in-object, suits};
-ghost use Rattle.document.specs.Law.{so-much, name-ok, begun-ok, has-room, refusal, refused};
+ghost use Rattle.steps.specs.Given.{tag, begun};
+ghost use Rattle.steps.specs.Steps.{begin};
+ghost use Rattle.steps.specs.Outline.{values, opened, in-object, suits};
+ghost use Rattle.steps.specs.Law.{so-much, name-ok, begun-ok, has-room, refusal, refused};
 ghost use Rattle.document.specs.Standing.{standing, memory-lent, Kept};
-use crate::cells::is_object;
-use crate::cells::sort_suits;
-use crate::item::codepoints_of;
-use crate::item::family_of;
-use crate::item::holder_ok;
-use crate::item::share_ok;
-use crate::item::value_ok;
-use crate::name::is_name;
-use crate::parts::Family;
-use crate::parts::Item;
-use crate::parts::Label;
-use crate::parts::Node;
 use crate::store::Store;
 use refusal::Reason;
+use steps::cells::is_object;
+use steps::cells::sort_suits;
+use steps::item::codepoints_of;
+use steps::item::family_of;
+use steps::item::holder_ok;
+use steps::item::share_ok;
+use steps::item::value_ok;
+use steps::name::is_name;
+use steps::parts::Family;
+use steps::parts::Item;
+use steps::parts::Label;
+use steps::parts::Node;
 
 // The depth of the deepest value.
 const DEEPEST: u32 = 32;

@@ -1,22 +1,22 @@
 ghost use mathlib.Core.Path.{_≡_};
 ghost use mathlib.Core.List.{[]};
 ghost use lib.ListN.{length};
-ghost use Rattle.document.specs.Given.{tag, content};
-ghost use Rattle.document.specs.Law.{so-much};
-ghost use Rattle.document.specs.Steps.{put as putting, open′ as opening, share as sharing};
+ghost use Rattle.steps.specs.Given.{tag, content};
+ghost use Rattle.steps.specs.Law.{so-much};
+ghost use Rattle.steps.specs.Steps.{put as putting, open′ as opening, share as sharing};
 ghost use Rattle.gillsieve.specs.Drafts.{steps-of, memory-of};
 ghost use Rattle.gillsieve.specs.Events.{began, closed, taken-back, answered, Did};
 use crate::draft::Draft;
-use document::parts::Holder;
-use document::parts::Label;
-use document::parts::Node;
-use document::parts::Share;
-use document::parts::Value;
 use document::store::Memories;
 use document::store::Store;
 use refusal::Part;
 use refusal::Reason;
 use refusal::Refusal;
+use steps::parts::Holder;
+use steps::parts::Label;
+use steps::parts::Node;
+use steps::parts::Share;
+use steps::parts::Value;
 
 impl<'a> Draft<'a> {
     // A draft in which no step stands.

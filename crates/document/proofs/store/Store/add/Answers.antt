@@ -3,14 +3,14 @@ use Prim.Native.Nat.{_+_, _<_, _≤_, _^_}
 use native.Mathlib.Omega.{arith}
 use lib.ListN.{length}
 use Rattle.document.specs.declared.store.Store.{Store}
-use Rattle.document.specs.Given.{tag, begun}
-use Rattle.document.specs.Steps.{begin}
-use Rattle.document.specs.Law.{codepoints-of}
-use Rattle.document.specs.Items.{items, room}
-use Rattle.document.specs.Build.{more}
+use Rattle.steps.specs.Given.{tag, begun}
+use Rattle.steps.specs.Steps.{begin}
+use Rattle.steps.specs.Law.{codepoints-of}
+use Rattle.steps.specs.Items.{items, room}
+use Rattle.steps.specs.Build.{more}
 use Rattle.document.specs.Standing.{in-use}
-use Rattle.document.proofs.Adjusted.{length-adjust-at}
-use Rattle.document.proofs.Piled.{uses}
+use Rattle.steps.proofs.Adjusted.{length-adjust-at}
+use Rattle.steps.proofs.Piled.{uses}
 use Rattle.document.proofs.Checked.{kept-agrees}
 use Rattle.document.proofs.Adding.{roomy, few, raises, grown, begun-in-use, same-room, sized-twice}
 use Rattle.document.proofs.store.Store.add.Needs as need

@@ -2,7 +2,7 @@ use mathlib.Core.Path.{_≡_, sym, ap, _∙_}
 use mathlib.Core.Bool.{true, false}
 use native.Mathlib.Omega.{arith}
 use lib.ListN.{length}
-use Rattle.document.specs.Law.{has-room, so-much}
+use Rattle.steps.specs.Law.{has-room, so-much}
 use Rattle.document.specs.Standing.{standing, memory-lent}
 use Rattle.document.proofs.Checked.{deep-enough, not-deep}
 use Rattle.document.proofs.store.Store.check.Needs as need

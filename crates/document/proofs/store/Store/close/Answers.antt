@@ -3,11 +3,11 @@ use Prim.Native.Nat.{_+_, _-_, _<_, _≤_, _^_}
 use native.Mathlib.Omega.{arith}
 use lib.ListN.{length}
 use Rattle.document.specs.declared.store.Store.{Store}
-use Rattle.document.specs.Steps.{close}
-use Rattle.document.specs.Items.{items}
-use Rattle.document.specs.Build.{blank, cell-at, last}
+use Rattle.steps.specs.Steps.{close}
+use Rattle.steps.specs.Items.{items}
+use Rattle.steps.specs.Build.{blank, cell-at, last}
 use Rattle.document.specs.Standing.{in-use}
-use Rattle.document.proofs.Piled.{uses}
+use Rattle.steps.proofs.Piled.{uses}
 use Rattle.document.proofs.Adding.{grown}
 use Rattle.document.proofs.Closing.{nothing-open, Ready, ready, closed-in-use}
 use Rattle.document.proofs.store.Store.close.Needs as need

@@ -1,4 +1,4 @@
-use Rattle.document.specs.Build.{blank}
+use Rattle.steps.specs.Build.{blank}
 use Rattle.document.proofs.Checked.{open-under, in-root, in-at}
 use Rattle.document.proofs.store.Store.in_object.Needs as need
 

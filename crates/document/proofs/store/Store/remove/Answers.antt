@@ -4,8 +4,8 @@ use native.Mathlib.Omega.{arith}
 use lib.ListN.{length}
 use Rattle.std.proofs.shelf.Lists.{length-take-le}
 use Rattle.document.specs.declared.store.Store.{Store}
-use Rattle.document.specs.Items.{items}
-use Rattle.document.specs.Build.{Under, cut-at, cell-at}
+use Rattle.steps.specs.Items.{items}
+use Rattle.steps.specs.Build.{Under, cut-at, cell-at}
 use Rattle.document.specs.Standing.{in-use, memory-lent}
 use Rattle.document.proofs.Checked.{kept-agrees}
 use Rattle.document.proofs.Adding.{sized-twice}

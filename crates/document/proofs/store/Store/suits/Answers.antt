@@ -1,7 +1,7 @@
 use mathlib.Core.Path.{sym, ap, _∙_}
 use native.Mathlib.Omega.{arith}
-use Rattle.document.specs.Outline.{suits, values}
-use Rattle.document.specs.Build.{blank}
+use Rattle.steps.specs.Outline.{suits, values}
+use Rattle.steps.specs.Build.{blank}
 use Rattle.document.specs.Standing.{standing}
 use Rattle.document.proofs.Checked.{suits-at, suits-none}
 use Rattle.document.proofs.store.Store.suits.Needs as need

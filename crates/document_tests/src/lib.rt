@@ -1,0 +1,3 @@
+// Tests of the crate `document`.
+#[cfg(test)]
+mod tests;

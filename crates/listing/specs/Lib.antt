@@ -1,0 +1,4 @@
+pub mod Pairs
+pub mod Listings
+pub mod Forms
+pub mod Buffers

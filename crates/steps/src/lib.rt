@@ -1,0 +1,5 @@
+pub mod cells;
+pub mod item;
+pub mod name;
+pub mod parts;
+pub mod pile;
