@@ -1,4 +1,4 @@
--- What reading accepts in a memory, reading without end accepts too, with the same steps.
+-- What reading accepts in a memory, reading without a limit accepts too, with the same steps.
 use mathlib.Core.Path.{_≡_, refl, sym, ap, subst, _∙_}
 use mathlib.Core.Bool.{Bool, true, false, cond}
 use mathlib.Core.List.{List, [], _∷_}
@@ -19,7 +19,7 @@ use Rattle.steps.specs.Law.{Memory, need, has-room, deepest}
 use Rattle.redbin.specs.declared.form.Form.{Form}
 use Rattle.redbin.specs.declared.form.Form.the-variants.{Nothing as is-none, Logic as is-logic, Char as is-char, Integer as is-integer, Float as is-float, Text as is-text, List as is-list, Object as is-object, ShareText as shares-text, ShareList as shares-list, ShareObject as shares-object}
 use Rattle.redbin.specs.Layout.{flags-place, table-flag}
-use Rattle.redbin.specs.Reading.{Reader, Read, Reads, got, refused, after, Uses, in-memory, without-end, push, Setting, Heading, each, hold, bare, heading-of, behind-padding, heading, room, add, target, add-share, add-text, on-boundary, add-float, add-list, add-context, add-object, content, value, symbol-table, return, start-of-file, records, whole-file, answer, read, load, file-steps, signed, is-nonzero}
+use Rattle.redbin.specs.Reading.{Reader, Read, Reads, got, refused, after, Uses, in-memory, unlimited, push, Setting, Heading, each, hold, bare, heading-of, behind-padding, heading, room, add, target, add-share, add-text, on-boundary, add-float, add-list, add-context, add-object, content, value, symbol-table, return, start-of-file, records, whole-file, answer, read, load, file-steps, signed, is-nonzero}
 use Rattle.redbin.specs.Promises.{Load-gives-file-steps}
 use Rattle.redbin.proofs.Fields.{then}
 use Rattle.redbin.proofs.Got.{Came, came, passed′}
@@ -48,9 +48,9 @@ module _ (m : Memory) (size : ℕ) (table : List Name) (payload : ℕ) where
   c = record { size = size; uses = in-memory m; table = table; payload = payload }
 
   abbrev d : Setting
-  d = record { size = size; uses = without-end; table = table; payload = payload }
+  d = record { size = size; uses = unlimited; table = table; payload = payload }
 
-  push-onward : (s : _) → Onward (push (in-memory m) s) (push without-end s)
+  push-onward : (s : _) → Onward (push (in-memory m) s) (push unlimited s)
   unfolding push
   push-onward s = same
 
@@ -84,7 +84,7 @@ module _ (m : Memory) (size : ℕ) (table : List Name) (payload : ℕ) where
   float-onward start l = seq same (λ u. seq same (λ n. add-onward start l (float n)))
 
   module _ (one two : Name → Reads (Unit {0})) (inside : (n : Name) → Onward (one n) (two n)) where
-    hold-onward : (l : Tag) (h : Holder) (ns : List Name) → Onward (hold (in-memory m) one l h ns) (hold without-end two l h ns)
+    hold-onward : (l : Tag) (h : Holder) (ns : List Name) → Onward (hold (in-memory m) one l h ns) (hold unlimited two l h ns)
     unfolding hold
     hold-onward l h ns = seq (push-onward _) (λ u. seq (each-onward one two inside ns) (λ u. push-onward close))
 
@@ -124,7 +124,7 @@ module _ (m : Memory) (size : ℕ) (table : List Name) (payload : ℕ) where
   records-onward count =
       seq same (λ n. seq same (λ u. seq same (λ u. seq (each-onward (value c deepest) (value d deepest) (value-onward deepest) (replicate count [])) (λ u. seq same (λ k. same)))))
 
-file-onward : (m : Memory) (bytes : List ℕ) → Onward (whole-file (in-memory m) bytes) (whole-file without-end bytes)
+file-onward : (m : Memory) (bytes : List ℕ) → Onward (whole-file (in-memory m) bytes) (whole-file unlimited bytes)
 unfolding whole-file
 file-onward m bytes = seq same (λ u. seq same (λ count. seq same (λ payload. seq same (λ table. records-onward m (length bytes) table payload count))))
 

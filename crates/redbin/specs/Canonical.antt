@@ -10,9 +10,10 @@ use Rattle.steps.specs.declared.parts.Holder.the-variants.{List as OfList, Obje
 use Rattle.steps.specs.declared.parts.Share.the-variants.{List as ShareList, Text as ShareText, Object as ShareObject}
 use Rattle.steps.specs.Steps.{Name, Tag, Content, none, logic, char, integer, float, text, Begun, put, open′, share, Step, begin, close, Steps}
 use Rattle.steps.specs.Outline.{Entry, values, inner-names, path-to}
+use Rattle.steps.specs.Law.{word-end}
 use Rattle.redbin.specs.declared.form.Form.the-variants.{Nothing as is-none, Logic as is-logic, Char as is-char, Integer as is-integer, Float as is-float, Text as is-text, List as is-list, Object as is-object, ShareText as shares-text, ShareList as shares-list, ShareObject as shares-object}
 use Rattle.redbin.specs.Bytes.{bytes-of, fields, words, fill, zeros, all-below, same}
-use Rattle.redbin.specs.Layout.{letters, version, table-flag, word-end, one-byte-end, two-bytes-end, padding-type, header, context-header, reference-header}
+use Rattle.redbin.specs.Layout.{letters, version, table-flag, one-byte-end, two-bytes-end, padding-type, header, context-header, reference-header}
 
 -- ---- contents
 

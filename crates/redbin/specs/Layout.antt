@@ -46,13 +46,6 @@ largest-file = bit 20
 
 -- ---- limits of fields, besides those that the law of steps has
 
--- what a field of four bytes, or of eight, cannot hold
-abbrev pub word-end : ℕ
-word-end = bit 32
-
-abbrev pub float-end : ℕ
-float-end = bit 64
-
 -- the length of a text stops here
 abbrev pub text-length-end : ℕ
 text-length-end = bit 24

@@ -28,11 +28,11 @@ use Rattle.steps.specs.declared.parts.Share.the-variants.{List as ShareList, Te
 use Rattle.steps.specs.Utf8.{lawful-name}
 use Rattle.steps.specs.Steps.{Name, Tag, Content, none, logic, char, integer, float, text, Begun, put, open′, share, Step, begin, close, Steps}
 use Rattle.steps.specs.Outline.{Entry, values, suits, follow, share-family}
-use Rattle.steps.specs.Law.{Memory, so-much, has-room, need, codepoint-end, field-end, deepest}
+use Rattle.steps.specs.Law.{Memory, so-much, has-room, need, codepoint-end, field-end, integer-end, word-end, float-end, deepest}
 use Rattle.redbin.specs.declared.form.Form.{Form}
 use Rattle.redbin.specs.declared.form.Form.the-variants.{Nothing as is-none, Logic as is-logic, Char as is-char, Integer as is-integer, Float as is-float, Text as is-text, List as is-list, Object as is-object, ShareText as shares-text, ShareList as shares-list, ShareObject as shares-object}
 use Rattle.redbin.specs.Bytes.{bit, number, fill, same}
-use Rattle.redbin.specs.Layout.{letters, version-place, flags-place, payload-size-place, start-size, file-header-size, version, table-flag, largest-file, word-end, float-end, text-length-end, padding-type, context-type, reference-type, none-type, logic-type, char-type, integer-type, float-type, object-type, text-type, list-type, unit-bits, share-mark, owner-mark, context-header, reference-header}
+use Rattle.redbin.specs.Layout.{letters, version-place, flags-place, payload-size-place, start-size, file-header-size, version, table-flag, largest-file, text-length-end, padding-type, context-type, reference-type, none-type, logic-type, char-type, integer-type, float-type, object-type, text-type, list-type, unit-bits, share-mark, owner-mark, context-header, reference-header}
 
 infixl 10 _>>=_
 infixl 10 _>>_
@@ -108,8 +108,8 @@ abbrev pub in-memory : Memory → Uses
 in-memory m = record { roomy = has-room m; leads = target-of; grown = λ s e. s ∷ e }
 
 -- no memory, and no end of room
-abbrev pub without-end : Uses
-without-end = record { roomy = λ e n. true; leads = target-of; grown = λ s e. s ∷ e }
+abbrev pub unlimited : Uses
+unlimited = record { roomy = λ e n. true; leads = target-of; grown = λ s e. s ∷ e }
 
 unfoldable pub push : Uses → Step → Reads (Unit {0})
 push k s r = got tt (record { rest = r .rest; steps = k .grown s (r .steps) })
@@ -210,7 +210,7 @@ pub record Heading : Type 0 where
 
 -- 32 bits as a signed number, in two's complement
 abbrev pub signed : ℕ → ℤ
-signed n = cond (ltb n (bit 31)) (pos n) (negsuc (word-end - 1 - n))
+signed n = cond (ltb n integer-end) (pos n) (negsuc (word-end - 1 - n))
 
 abbrev pub is-nonzero : ℕ → Bool
 is-nonzero n = ltb 0 n
@@ -465,4 +465,4 @@ steps-or-none (Ok e) = e
 steps-or-none (Err x) = []
 
 abbrev pub file-steps : List ℕ → Steps
-file-steps bytes = steps-or-none (read without-end bytes)
+file-steps bytes = steps-or-none (read unlimited bytes)
