@@ -1,22 +1,20 @@
 -- Lawful steps in other memories, and what the theorems on the canonical form and on load say of them.
-use mathlib.Core.Path.{_≡_, refl, sym, ap, subst, _∙_}
-use mathlib.Core.Bool.{Bool, true}
-use mathlib.Core.List.{List, [], _∷_}
-use Prim.Native.Nat.{ℕ, _+_, _≤_, _<_, min}
+use mathlib.Core.Path.{_≡_, ap}
+use mathlib.Core.Bool.{true}
+use mathlib.Core.List.{[], _∷_}
 use native.Mathlib.Omega.{arith}
 use lib.Dec.{ltb}
 use lib.ListN.{length}
 use Rattle.std.proofs.shelf.Tests.{lt-ltb}
-use Rattle.std.specs.declared.result.Result.{Result}
-use Rattle.std.specs.declared.result.Result.the-variants.{Ok, Err}
+use Rattle.std.specs.declared.result.Result.the-variants.{Ok}
 use Rattle.steps.specs.Steps.{Step, Steps, begin, close}
 use Rattle.steps.specs.Outline.{opened}
-use Rattle.steps.specs.Law.{deepest, Memory, need, used, usable, limit, Lawful, Closed}
+use Rattle.steps.specs.Law.{deepest, Memory, need, limit, Lawful}
 use Rattle.redbin.specs.Canonical.{canonical}
 use Rattle.redbin.specs.Reading.{load}
-use Rattle.redbin.specs.Promises.{Fits, Writable, Canonical-reads-back, Canonical-tells-apart, Load-is-lawful}
+use Rattle.redbin.specs.Promises.{Fits, Canonical-reads-back, Canonical-tells-apart, Load-is-lawful}
 use Rattle.redbin.proofs.Puts.{room-parts, room-from}
-use Rattle.redbin.proofs.Whole.{Allowed, allowed}
+use Rattle.redbin.proofs.Whole.{allowed}
 use Rattle.redbin.proofs.File.{canonical-reads-back}
 use Rattle.redbin.proofs.Loaded.{load-lawful}
 

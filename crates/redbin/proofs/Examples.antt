@@ -1,5 +1,5 @@
 -- The worked examples, computed.
-use mathlib.Core.Path.{_≡_, refl}
+use mathlib.Core.Path.{refl}
 use lib.Dec.{lit<}
 use Rattle.steps.specs.Outline.{inner, inner-names, begun-at, nth, walk, path-of}
 use Rattle.redbin.specs.Bytes.{bytes-of, number, fields, all-below, same}

@@ -1,16 +1,16 @@
 -- What is written as fields is read back as the same fields.
-use mathlib.Core.Path.{_≡_, refl, sym, ap, subst, _∙_}
-use mathlib.Core.Bool.{Bool, true, false, cond, _&&_}
+use mathlib.Core.Path.{_≡_, refl, ap}
+use mathlib.Core.Bool.{Bool, true, false}
 use mathlib.Core.List.{List, [], _∷_, _++_, append-assoc}
-use Prim.Native.Nat.{ℕ, zero, suc, _+_, _-_, _*_, _/_, _%_, _^_, _≤_, _<_}
+use Prim.Native.Nat.{ℕ, zero, suc, _+_, _-_, _*_, _/_, _^_, _≤_, _<_}
 use native.Mathlib.Omega.{arith}
-use lib.Dec.{eqb, ltb, leb}
+use lib.Dec.{ltb}
 use lib.ListN.{length, take, drop, length-append}
 use Rattle.std.proofs.shelf.Lists.{take-at, drop-at}
 use Rattle.std.proofs.shelf.Tests.{le-ltb, lt-ltb}
 use Rattle.steps.specs.Steps.{Steps}
-use Rattle.redbin.specs.Bytes.{bytes-of, number, fields, words}
-use Rattle.redbin.specs.Reading.{Reader, Read, Reads, got, refused, after, refuse-when, here, enough, below, series, run}
+use Rattle.redbin.specs.Bytes.{bytes-of, number, fields}
+use Rattle.redbin.specs.Reading.{Reader, Read, Reads, got, after, refuse-when, enough, below, series, run}
 use Rattle.refusal.specs.declared.Part.{Part}
 use Rattle.refusal.specs.declared.Reason.{Reason}
 

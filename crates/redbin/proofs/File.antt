@@ -1,34 +1,31 @@
 -- The canonical form of lawful closed steps is read back as these steps.
-use mathlib.Core.Path.{_≡_, refl, sym, ap, subst, _∙_}
-use mathlib.Core.Bool.{Bool, true, false, cond, _&&_, _||_, not}
-use mathlib.Core.List.{List, [], _∷_, _++_, append-assoc, append-nil}
-use Prim.Native.Nat.{ℕ, zero, suc, _+_, _-_, _*_, _/_, _%_, _^_, _≤_, _<_}
+use mathlib.Core.Path.{_≡_, refl, sym, ap, _∙_}
+use mathlib.Core.Bool.{false, _||_, not}
+use mathlib.Core.List.{List, [], _∷_, _++_, append-nil}
+use Prim.Native.Nat.{ℕ, _+_, _-_, _≤_}
 use native.Mathlib.Omega.{arith}
-use lib.Dec.{eqb, ltb, leb, lit<, lit≤}
+use lib.Dec.{eqb}
 use lib.ListN.{length, length-append, replicate}
 use Rattle.std.proofs.shelf.Tests.{le-ltb, or-from}
-use Rattle.std.specs.declared.option.Option.{Option}
-use Rattle.std.specs.declared.option.Option.the-variants.{Some, None}
-use Rattle.steps.specs.Law.{Memory, Lawful, Closed}
-use Rattle.steps.specs.Outline.{values, opened, inner-names}
-use Rattle.steps.specs.Steps.{Steps, Step, Name, begin, close}
+use Rattle.steps.specs.Law.{field-end, Memory, Lawful, Closed}
+use Rattle.steps.specs.Outline.{values, inner-names}
+use Rattle.steps.specs.Steps.{Steps, Name, begin, close}
 use Rattle.steps.specs.declared.parts.Node.the-variants.{Root}
 use Rattle.redbin.proofs.Drafted.{InDraft, in-draft}
 use Rattle.redbin.proofs.Fields.{rd, then, refuse-passes, field-reads, field-last, length-fields}
 use Rattle.redbin.proofs.Holders.{reading}
-use Rattle.redbin.proofs.Parts.{Part-of, part-whole, nested, closed-whole, names-outside}
+use Rattle.redbin.proofs.Parts.{part-whole, nested, closed-whole, names-outside}
 use Rattle.redbin.proofs.Records.{reads-whole, inner-names-length}
 use Rattle.redbin.proofs.Shares.{count-small}
-use Rattle.redbin.proofs.Table.{All-lawful, symbols-lawful, offsets-length, table-reads}
-use Rattle.redbin.proofs.Whole.{Whole, names, bytes, whole-payload, whole-names, Allowed, allowed}
-use Rattle.redbin.specs.Bytes.{fields, words, same}
+use Rattle.redbin.proofs.Table.{symbols-lawful, offsets-length, table-reads}
+use Rattle.redbin.proofs.Whole.{Whole, names, bytes, whole-payload, whole-names, allowed}
+use Rattle.redbin.specs.Bytes.{words, same}
 use Rattle.redbin.specs.Canonical.{symbols, table, flags-for, payload, canonical, offsets, strings}
-use Rattle.redbin.specs.Layout.{letters}
-use Rattle.redbin.specs.Reading.{Reader, Read, Reads, got, after, skip, each, value, start-of-file, records, whole-file, answer, read, load}
+use Rattle.redbin.specs.Layout.{largest-file, letters}
+use Rattle.redbin.specs.Reading.{got, skip, each, value, start-of-file, records, whole-file, answer, read, load}
 use Rattle.refusal.specs.declared.Part.the-variants.{Header}
 use Rattle.refusal.specs.declared.Reason.the-variants.{Large}
 use Rattle.std.specs.declared.result.Result.the-variants.{Ok}
-use Rattle.std.specs.declared.result.Result.{Result}
 
 lawful-count : (m : Memory) (e : Steps) → Lawful m e → length (values e) ≤ 16384
 lawful-count m [] t = omega arith
@@ -52,13 +49,13 @@ roots : {e : Steps} (w : Whole [] e) → inner-names (values e) Root ≡ names w
 unfolding inner-names
 roots w = whole-names w
 
-pub start-reads : (flag : ℕ) (more : List ℕ) → not (eqb flag 0 || eqb flag 4) ≡ false → 8 ≤ length more → length (letters ++ (2 ∷ flag ∷ more)) ≤ 1048576
+pub start-reads : (flag : ℕ) (more : List ℕ) → not (eqb flag 0 || eqb flag 4) ≡ false → 8 ≤ length more → length (letters ++ (2 ∷ flag ∷ more)) ≤ largest-file
     → start-of-file (letters ++ (2 ∷ flag ∷ more)) (rd (letters ++ (2 ∷ flag ∷ more)) []) ≡ got tt (rd more [])
 unfolding start-of-file skip same
 start-reads flag more f l small =
     then _ (refuse-passes _ _ _ _ _ (or-from _ _ (le-ltb (length (letters ++ (2 ∷ flag ∷ more))) 16 (omega arith)) refl))
     (then _ (refuse-passes _ _ _ _ _ refl)
-    (then _ (refuse-passes _ _ _ _ _ f) (then _ (refuse-passes _ _ _ _ _ (le-ltb 1048576 _ small)) (then _ refl refl))))
+    (then _ (refuse-passes _ _ _ _ _ f) (then _ (refuse-passes _ _ _ _ _ (le-ltb largest-file _ small)) (then _ refl refl))))
 
 records-reads : (c : InDraft) (n : ℕ) (bytes : List ℕ) (e : Steps) → length bytes ≡ c .payload → each (value (in-draft c) 32) (replicate n []) (rd bytes []) ≡ got tt (rd [] e)
     → records (in-draft c) n (rd bytes []) ≡ got tt (rd [] e)
@@ -69,7 +66,7 @@ records-reads c n bytes e s inside =
     (then _ (refuse-passes _ _ _ _ _ (le-ltb (c .payload) (length bytes) (omega arith)))
     (then _ inside (then _ refl (refuse-passes _ _ _ _ _ refl)))))
 
-pub canonical-reads-back : (m : Memory) (e : Steps) → Lawful m e → Closed e → length (canonical e) ≤ 1048576 → load m [] (canonical e) ≡ Ok e
+pub canonical-reads-back : (m : Memory) (e : Steps) → Lawful m e → Closed e → length (canonical e) ≤ largest-file → load m [] (canonical e) ≡ Ok e
 unfolding canonical read whole-file
 canonical-reads-back m e lawful closed small =
     let all = values e in
@@ -95,7 +92,7 @@ canonical-reads-back m e lawful closed small =
     let inside : each V (replicate n []) (rd R []) ≡ got tt (rd [] e) = ap (λ (x : List Name). each V x (rd R [])) (sym q) ∙ ap (λ (x : List ℕ). each V (names w) (rd x [])) (sym c) ∙ r in
     ap answer
     (then _ (start-reads (flags-for ns) (W ++ (T ++ R)) (flags-fine ns) (omega arith) small)
-    (then _ (field-reads size Header 4 2147483648 Large n (length R ∷ []) (T ++ R) [] (omega arith) (omega arith))
-    (then _ (field-last size Header 4 2147483648 Large (length R) (T ++ R) [] (omega arith) (omega arith))
+    (then _ (field-reads size Header 4 field-end Large n (length R ∷ []) (T ++ R) [] (omega arith) (omega arith))
+    (then _ (field-last size Header 4 field-end Large (length R) (T ++ R) [] (omega arith) (omega arith))
     (then _ (table-reads size ns R [] (symbols-lawful m e w p) (omega arith))
     (records-reads (reading size m all (length R)) n R e refl inside)))))

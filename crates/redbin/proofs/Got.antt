@@ -1,27 +1,26 @@
 -- What is known when a reading came to its end without a refusal.
-use mathlib.Core.Path.{_≡_, refl, sym, ap, subst, _∙_}
-use mathlib.Core.Bool.{Bool, true, false, cond, _&&_, _||_, not}
-use mathlib.Core.List.{List, [], _∷_, _++_}
-use Prim.Native.Nat.{ℕ, zero, suc, _+_, _-_, _*_, _/_, _%_, _^_, _≤_, _<_}
+use mathlib.Core.Path.{_≡_, refl, ap, _∙_}
+use mathlib.Core.Bool.{Bool, true, false, cond}
+use mathlib.Core.List.{List, [], _∷_}
+use Prim.Native.Nat.{ℕ, zero, suc, _-_, _*_, _%_, _<_}
 use native.Mathlib.Omega.{arith}
-use lib.Dec.{eqb, ltb, leb}
+use lib.Dec.{eqb, ltb}
 use lib.ListN.{length, take, drop}
 use Rattle.std.proofs.shelf.Tests.{ltb-true}
 use Rattle.std.specs.declared.option.Option.{Option}
 use Rattle.std.specs.declared.option.Option.the-variants.{Some, None}
 use Rattle.steps.specs.Law.{need, Memory, has-room}
 use Rattle.steps.specs.Outline.{Entry, values, suits, follow}
-use Rattle.steps.specs.Steps.{Steps, Step, Name, Tag, Content, begin, close, put, open′, share}
-use Rattle.steps.specs.Utf8.{lawful-name}
+use Rattle.steps.specs.Steps.{Steps, Step, Tag, Content, begin, put}
 use Rattle.steps.specs.declared.parts.Family.{Family}
 use Rattle.steps.specs.declared.parts.Node.{Node}
 use Rattle.redbin.proofs.Drafted.{InDraft, in-draft}
 use Rattle.redbin.proofs.Fields.{Below}
 use Rattle.redbin.specs.Bytes.{number}
-use Rattle.redbin.specs.Reading.{because, bare, in-memory, suiting, Heading, Reader, Read, Reads, got, refused, after, here, push, refuse-when, enough, below, series, run, Announced, form, wrong-type, wrong-bits, announced, is-nonzero, heading-by, heading-of, behind-padding, heading, room, target, target-at, on-boundary, add, any-word}
-use Rattle.refusal.specs.declared.Part.the-variants.{Record, Reference}
+use Rattle.redbin.specs.Reading.{because, in-memory, suiting, Heading, Reader, Read, Reads, got, refused, after, here, push, refuse-when, enough, below, series, run, Announced, form, wrong-type, wrong-bits, heading-by, heading-of, behind-padding, heading, room, target, on-boundary, add}
+use Rattle.refusal.specs.declared.Part.the-variants.{Reference}
 use Rattle.refusal.specs.declared.Part.{Part}
-use Rattle.refusal.specs.declared.Reason.the-variants.{BadPath, NoMemory}
+use Rattle.refusal.specs.declared.Reason.the-variants.{BadPath}
 use Rattle.refusal.specs.declared.Reason.{Reason}
 use Rattle.refusal.specs.declared.Refusal.{Refusal}
 

@@ -1,23 +1,24 @@
 -- A header that was written is read back.
-use mathlib.Core.Path.{_≡_, refl, sym, ap, subst, _∙_}
+use mathlib.Core.Path.{_≡_, refl, _∙_}
 use mathlib.Core.Logic.{_⊎_, inl, inr}
-use mathlib.Core.Bool.{Bool, true, false, cond, _&&_, _||_, not}
-use mathlib.Core.List.{List, [], _∷_, _++_, append-assoc}
-use Prim.Native.Nat.{ℕ, zero, suc, _+_, _-_, _*_, _/_, _%_, _^_, _≤_, _<_}
+use mathlib.Core.Bool.{Bool, true, false, cond}
+use mathlib.Core.List.{List, [], _∷_, _++_}
+use Prim.Native.Nat.{ℕ, _+_, _-_, _*_, _/_, _%_, _<_}
 use native.Mathlib.Omega.{arith}
-use lib.Dec.{eqb, ltb, leb, lit<}
-use lib.ListN.{length, take, drop, length-append}
+use lib.Dec.{eqb, ltb, lit<}
+use lib.ListN.{length, take, length-append}
 use Rattle.std.proofs.shelf.Tests.{le-ltb, lt-ltb, ne-eqb}
 use Rattle.steps.specs.Steps.{Steps}
 use Rattle.steps.specs.declared.parts.ListKind.the-variants.{Paren, LitPath, GetPath, Block, Path, SetPath}
 use Rattle.steps.specs.declared.parts.ListKind.{ListKind}
 use Rattle.steps.specs.declared.parts.TextKind.the-variants.{File, Url, String}
 use Rattle.steps.specs.declared.parts.TextKind.{TextKind}
+use Rattle.steps.specs.Law.{word-end}
 use Rattle.redbin.proofs.Drafted.{InDraft, in-draft}
 use Rattle.redbin.proofs.Fields.{rd, then, refuse-passes, field-reads, length-fields}
-use Rattle.redbin.specs.Bytes.{bytes-of, number, fields, words}
+use Rattle.redbin.specs.Bytes.{bit, bytes-of, number, fields, words}
 use Rattle.redbin.specs.Layout.{text-type, list-type, type-of, unit-bits, bits-of, header}
-use Rattle.redbin.specs.Reading.{Reader, Read, Reads, got, after, here, below, any-word, Announced, form, announced, Heading, is-nonzero, heading-of, behind-padding, heading}
+use Rattle.redbin.specs.Reading.{Reader, got, here, form, announced, is-nonzero, heading-of, behind-padding, heading}
 use Rattle.redbin.specs.declared.form.Form.the-variants.{Text as is-text, ShareText as shares-text, List as is-list, Char as is-char, ShareObject as shares-object, Nothing as is-none, Float as is-float, Logic as is-logic, ShareList as shares-list, Object as is-object, Integer as is-integer}
 use Rattle.redbin.specs.declared.form.Form.{Form}
 use Rattle.refusal.specs.declared.Part.the-variants.{Record}
@@ -89,12 +90,12 @@ announced-sort (shares-list k) h = announced-list-share k
 announced-sort (shares-object true) h = refl
 announced-sort (shares-object false) h = refl
 
-text-type-small : (k : TextKind) → (0 < text-type k) × (text-type k < 256)
+text-type-small : (k : TextKind) → (0 < text-type k) × (text-type k < bit 8)
 text-type-small String = omega arith
 text-type-small File = omega arith
 text-type-small Url = omega arith
 
-list-type-small : (k : ListKind) → (0 < list-type k) × (list-type k < 256)
+list-type-small : (k : ListKind) → (0 < list-type k) × (list-type k < bit 8)
 list-type-small Block = omega arith
 list-type-small Paren = omega arith
 list-type-small Path = omega arith
@@ -102,7 +103,7 @@ list-type-small LitPath = omega arith
 list-type-small SetPath = omega arith
 list-type-small GetPath = omega arith
 
-type-small : (s : Form) → (0 < type-of s) × (type-of s < 256)
+type-small : (s : Form) → (0 < type-of s) × (type-of s < bit 8)
 type-small is-none = omega arith
 type-small is-logic = omega arith
 type-small is-char = omega arith
@@ -115,7 +116,7 @@ type-small (shares-text k) = text-type-small k
 type-small (shares-list k) = list-type-small k
 type-small (shares-object w) = omega arith
 
-bits-small : (s : Form) → Unit-of s → bits-of s < 8388608
+bits-small : (s : Form) → Unit-of s → bits-of s < bit 23
 bits-small is-none h = omega arith
 bits-small is-logic h = omega arith
 bits-small is-char h = omega arith
@@ -132,12 +133,12 @@ bits-small (shares-object false) h = omega arith
 
 -- a header's parts
 pub record Parts (t b : ℕ) (new-line : Bool) (h : ℕ) : Type 0 where
-  pub type : h % 256 ≡ t
-  pub bits : h / 256 % 8388608 ≡ b
-  pub mark : is-nonzero (h / 2147483648) ≡ new-line
-  pub fits : h < 4294967296
+  pub type : h % bit 8 ≡ t
+  pub bits : h / bit 8 % bit 23 ≡ b
+  pub mark : is-nonzero (h / bit 31) ≡ new-line
+  pub fits : h < word-end
 
-pub parts : (t b : ℕ) (nl : Bool) → t < 256 → b < 8388608 → Parts t b nl (t + 256 * b + cond nl 2147483648 0)
+pub parts : (t b : ℕ) (nl : Bool) → t < bit 8 → b < bit 23 → Parts t b nl (t + bit 8 * b + cond nl (bit 31) 0)
 parts t b true p q = record { type = omega arith; bits = omega arith; mark = lt-ltb _ _ (omega arith); fits = omega arith }
 parts t b false p q = record { type = omega arith; bits = omega arith; mark = le-ltb _ _ (omega arith); fits = omega arith }
 
@@ -155,11 +156,11 @@ pub heading-reads : (c : InDraft) (s : Form) (nl : Bool) (ns more : List ℕ) (e
 unfolding heading here
 heading-reads c s nl ns more e u =
     let p = parts (type-of s) (bits-of s) nl (type-small s .1) (bits-small s u) in
-    let t : eqb (header s nl % 256) 0 ≡ false = ne-eqb _ _ (λ z. omega (arith, p .type, type-small s .0)) in
-    then _ refl (then _ (field-reads (c .size) Record 4 4294967296 Large (header s nl) ns more e (p .fits) (p .fits)) (rw t (heading-of-reads c _ s nl _ u)))
+    let t : eqb (header s nl % bit 8) 0 ≡ false = ne-eqb _ _ (λ z. omega (arith, p .type, type-small s .0)) in
+    then _ refl (then _ (field-reads (c .size) Record 4 word-end Large (header s nl) ns more e (p .fits) (p .fits)) (rw t (heading-of-reads c _ s nl _ u)))
 
 -- padding and then a float's header
-first-byte : (h : ℕ) (more : List ℕ) → number (take 1 (words (h ∷ []) ++ more)) ≡ h % 256
+first-byte : (h : ℕ) (more : List ℕ) → number (take 1 (words (h ∷ []) ++ more)) ≡ h % bit 8
 unfolding number fields bytes-of
 first-byte h more = omega arith
 
@@ -172,8 +173,8 @@ padded-reads c nl more e =
     let bytes = words (header is-float nl ∷ []) ++ more in
     let l : ltb (length bytes) 4 ≡ false = le-ltb _ _ (omega (arith, length-append (words (header is-float nl ∷ [])) more, length-fields 4 (header is-float nl ∷ []))) in
     let t : number (take 1 bytes) ≡ 12 = first-byte (header is-float nl) more ∙ p .type in
-    then _ refl (then _ (field-reads (c .size) Record 4 4294967296 Large 0 [] bytes e (lit< tt) (lit< tt))
-    (then _ refl (then _ (refuse-passes _ _ _ _ _ (rw (l, t))) (then _ (refuse-passes _ _ _ _ _ refl) (then _ refl (then _ (field-reads (c .size) Record 4 4294967296 Large (header is-float nl) [] more e (p .fits) (p .fits))
+    then _ refl (then _ (field-reads (c .size) Record 4 word-end Large 0 [] bytes e (lit< tt) (lit< tt))
+    (then _ refl (then _ (refuse-passes _ _ _ _ _ (rw (l, t))) (then _ (refuse-passes _ _ _ _ _ refl) (then _ refl (then _ (field-reads (c .size) Record 4 word-end Large (header is-float nl) [] more e (p .fits) (p .fits))
     (heading-of-reads c _ is-float nl _ tt)))))))
 
 pub heading-last : (c : InDraft) (s : Form) (nl : Bool) (more : List ℕ) (e : Steps) → Unit-of s

@@ -1,18 +1,17 @@
 -- What load accepts is lawful and closed.
-use mathlib.Core.Path.{_≡_, refl, sym, ap, subst, _∙_}
-use mathlib.Core.Bool.{Bool, true, false, cond, _&&_, _||_, not}
-use mathlib.Core.List.{List, [], _∷_, _++_, tail}
-use Prim.Native.Nat.{ℕ, zero, suc, _+_, _-_, _*_, _/_, _%_, _^_, _≤_, _<_}
+use mathlib.Core.Path.{_≡_, refl, ap, _∙_}
+use mathlib.Core.Bool.{Bool, true, false, cond}
+use mathlib.Core.List.{List, [], _∷_, tail}
+use Prim.Native.Nat.{ℕ, zero, suc, _+_, _-_, _<_}
 use native.Mathlib.Omega.{arith}
-use lib.Dec.{eqb, ltb, leb}
-use lib.IntN.{ℤ, pos, negsuc}
+use lib.Dec.{eqb, ltb}
+use lib.IntN.{pos, negsuc}
 use lib.ListN.{length, getD, replicate}
-use Rattle.std.proofs.shelf.Tests.{ltb-true, ltb-false, lt-ltb, and-from}
-use Rattle.std.specs.declared.option.Option.{Option}
-use Rattle.std.specs.declared.option.Option.the-variants.{Some, None}
-use Rattle.steps.specs.Law.{codepoint-end, codepoints-ok, need, Memory, Lawful, Closed, refusal, name-ok, begun-ok, content-ok, holder-ok, share-ok, has-room}
+use Rattle.std.proofs.shelf.Tests.{ltb-false, lt-ltb, and-from}
+use Rattle.std.specs.declared.option.Option.the-variants.{None}
+use Rattle.steps.specs.Law.{integer-end, field-end, word-end, codepoint-end, codepoints-ok, need, Memory, Lawful, refusal, name-ok, begun-ok, content-ok, holder-ok, share-ok, has-room}
 use Rattle.steps.specs.Outline.{Opened, values, opened, in-object, suits, share-family}
-use Rattle.steps.specs.Steps.{Steps, Step, Name, Tag, Content, Begun, none, logic, char, integer, float, text, begin, close, put, open′, share}
+use Rattle.steps.specs.Steps.{Steps, Name, Tag, Content, Begun, none, logic, char, integer, float, text, begin, close, put, open′, share}
 use Rattle.steps.specs.Utf8.{lawful-name}
 use Rattle.steps.specs.declared.parts.Holder.the-variants.{Object as OfObject, List as OfList}
 use Rattle.steps.specs.declared.parts.Holder.{Holder}
@@ -23,10 +22,10 @@ use Rattle.steps.specs.declared.parts.Share.{Share}
 use Rattle.steps.specs.declared.parts.TextKind.{TextKind}
 use Rattle.redbin.proofs.Drafted.{InDraft, in-draft}
 use Rattle.redbin.proofs.Fields.{Below}
-use Rattle.redbin.proofs.Got.{Came, came, here-got, refuse-got, below-got, run-got, heading-got, room-got, push-got, target-got, boundary-got, add-got}
+use Rattle.redbin.proofs.Got.{came, here-got, refuse-got, below-got, run-got, heading-got, room-got, push-got, target-got, boundary-got, add-got}
 use Rattle.redbin.proofs.Table.{All-lawful}
 use Rattle.redbin.specs.Layout.{context-header}
-use Rattle.redbin.specs.Reading.{bare, in-memory, Reader, Read, Reads, got, refused, after, push, each, named-by, signed, is-nonzero, add-share, add-text, add-float, hold, add-list, add-context, add-object, content, value, heading}
+use Rattle.redbin.specs.Reading.{bare, in-memory, Reader, Reads, got, each, named-by, signed, is-nonzero, add-share, add-text, add-float, hold, add-list, add-context, add-object, content, value}
 use Rattle.redbin.specs.declared.form.Form.the-variants.{Char as is-char, ShareText as shares-text, ShareObject as shares-object, List as is-list, Logic as is-logic, Object as is-object, Nothing as is-none, Integer as is-integer, Text as is-text, Float as is-float, ShareList as shares-list}
 use Rattle.redbin.specs.declared.form.Form.{Form}
 
@@ -64,12 +63,12 @@ codepoints-from : (ps : List ℕ) → Below codepoint-end ps → codepoints-ok p
 codepoints-from [] h = refl
 codepoints-from (p ∷ ps) h = and-from (ltb p codepoint-end) (codepoints-ok ps) (lt-ltb p codepoint-end (h .0)) (codepoints-from ps (h .1))
 
-signed-ok : (n : ℕ) → n < 4294967296 → content-ok (integer (signed n)) ≡ true
-signed-ok n h = go (ltb n 2147483648) refl
+signed-ok : (n : ℕ) → n < word-end → content-ok (integer (signed n)) ≡ true
+signed-ok n h = go (ltb n integer-end) refl
   where
-    go : (b : Bool) → ltb n 2147483648 ≡ b → content-ok (integer (cond b (pos n) (negsuc (4294967295 - n)))) ≡ true
+    go : (b : Bool) → ltb n integer-end ≡ b → content-ok (integer (cond b (pos n) (negsuc ((word-end - 1) - n)))) ≡ true
     go true e = e
-    go false e = lt-ltb _ _ (omega (arith, ltb-false n 2147483648 e))
+    go false e = lt-ltb _ _ (omega (arith, ltb-false n integer-end e))
 
 text-kept : (c : InDraft) (start : ℕ) (l : Tag) (k : TextKind) (unit : ℕ) (r : Reader) (u : Unit {0}) (s : Reader) → Ready (c .memory) (r .steps) l
     → add-text (in-draft c) start l k unit r ≡ got u s → Kept (c .memory) (r .steps) (s .steps)
@@ -85,7 +84,7 @@ text-kept c start l k unit r u s y h =
     let w = run-got _ _ _ _ _ _ (d .at) (f .value) (f .at) (f .was) in
     let g = add-got c start l (text k (a .value) (d .value)) (f .at) u s (f .next) in
     put-kept (c .memory) (r .steps) (f .at .steps) (s .steps) l (text k (a .value) (d .value)) y
-    (and-from (ltb (a .value) 2147483648) (codepoints-ok (d .value)) (lt-ltb _ _ (p .0)) (codepoints-from (d .value) (t .0)))
+    (and-from (ltb (a .value) field-end) (codepoints-ok (d .value)) (lt-ltb _ _ (p .0)) (codepoints-from (d .value) (t .0)))
     (w .2 ∙ t .2 ∙ q .1 ∙ p .1) (g .0) (g .1)
 
 float-kept : (c : InDraft) (start : ℕ) (l : Tag) (r : Reader) (u : Unit {0}) (s : Reader) → Ready (c .memory) (r .steps) l

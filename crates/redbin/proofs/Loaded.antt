@@ -1,11 +1,11 @@
 -- What load accepts is lawful, and nothing in it is open.
-use mathlib.Core.Path.{_≡_, refl, sym, ap, subst, _∙_}
-use mathlib.Core.Bool.{Bool, true, false, cond, _&&_, _||_, not}
-use mathlib.Core.List.{List, [], _∷_, _++_}
-use Prim.Native.Nat.{ℕ, zero, suc, _+_, _-_, _*_, _≤_, _<_}
+use mathlib.Core.Path.{_≡_, refl, sym, ap, _∙_}
+use mathlib.Core.Bool.{Bool, true, false, cond}
+use mathlib.Core.List.{List, [], _∷_}
+use Prim.Native.Nat.{ℕ, _+_, _-_}
 use native.Mathlib.Omega.{arith}
-use lib.Dec.{eqb, ltb, leb}
-use lib.ListN.{length, getD, take, drop, replicate}
+use lib.Dec.{eqb}
+use lib.ListN.{length, getD, drop, replicate}
 use Rattle.std.specs.declared.option.Option.{Option}
 use Rattle.std.specs.declared.option.Option.the-variants.{Some, None}
 use Rattle.steps.specs.Law.{Memory, Lawful, Closed}
@@ -13,12 +13,11 @@ use Rattle.steps.specs.Outline.{opened}
 use Rattle.steps.specs.Steps.{Steps, Name}
 use Rattle.steps.specs.Utf8.{lawful-name}
 use Rattle.redbin.proofs.Drafted.{InDraft, in-draft}
-use Rattle.redbin.proofs.Got.{Came, came, same-reader, same-value, here-got, refuse-got, enough-got, below-got, run-got}
-use Rattle.redbin.proofs.Kept.{Kept, each-kept, empty-ok, value-kept}
+use Rattle.redbin.proofs.Got.{came, same-reader, same-value, here-got, refuse-got, enough-got, below-got, run-got}
+use Rattle.redbin.proofs.Kept.{each-kept, empty-ok, value-kept}
 use Rattle.redbin.proofs.Table.{All-lawful}
-use Rattle.redbin.specs.Reading.{in-memory, Reader, Read, Reads, got, refused, after, skip, return, until-zero, if-lawful, name-at, name-or-refuse, names-at, symbol-table, each, value, start-of-file, records, whole-file, answer, read, load}
+use Rattle.redbin.specs.Reading.{in-memory, Reader, Read, got, refused, skip, return, until-zero, if-lawful, name-at, name-or-refuse, names-at, symbol-table, value, start-of-file, records, whole-file, read, load}
 use Rattle.std.specs.declared.result.Result.the-variants.{Err, Ok}
-use Rattle.std.specs.declared.result.Result.{Result}
 
 if-lawful-some : (o : Option Name) (n : Name) → if-lawful o ≡ Some n → lawful-name n ≡ true
 if-lawful-some None n h = let z : _≡_ {A = ℕ} 0 1 = cc in absurd (omega arith)

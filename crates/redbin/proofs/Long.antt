@@ -1,22 +1,22 @@
 -- The examples whose files are too long to compute with.
-use mathlib.Core.Path.{_≡_, refl, sym, ap, _∙_}
-use mathlib.Core.Bool.{Bool, true, false, cond, _||_, not}
-use mathlib.Core.List.{List, [], _∷_, _++_}
-use Prim.Native.Nat.{ℕ, zero, suc, _+_, _≤_, _<_}
+use mathlib.Core.Path.{_≡_, refl, ap}
+use mathlib.Core.Bool.{Bool, true, false, _||_}
+use mathlib.Core.List.{[], _∷_, _++_}
+use Prim.Native.Nat.{ℕ, _+_, _<_}
 use native.Mathlib.Omega.{arith}
-use lib.Dec.{eqb, ltb, lit<}
+use lib.Dec.{ltb, lit<}
 use lib.ListN.{length, length-append, replicate, length-replicate}
 use Rattle.std.proofs.shelf.Tests.{le-ltb, lt-ltb, or-from}
 use Rattle.refusal.specs.declared.Reason.{Reason}
 use Rattle.refusal.specs.declared.Reason.the-variants.{Large}
 use Rattle.refusal.specs.declared.Part.{Part}
 use Rattle.refusal.specs.declared.Part.the-variants.{Header}
-use Rattle.steps.specs.Law.{limit, field-end}
-use Rattle.redbin.specs.Bytes.{fields, words, same}
+use Rattle.steps.specs.Law.{field-end}
+use Rattle.redbin.specs.Bytes.{words, same}
 use Rattle.redbin.specs.Layout.{largest-file}
-use Rattle.redbin.specs.Reading.{Reader, Read, Reads, got, refused, after, because, refuse-when, start-of-file, records, whole-file, answer, read}
-use Rattle.redbin.specs.Examples.{Outcome, refuses, outcome, gives, redbin, long}
-use Rattle.redbin.proofs.Fields.{rd, then, refuse-passes, field-reads, field-last, length-fields}
+use Rattle.redbin.specs.Reading.{Reader, refused, because, refuse-when, start-of-file, records, whole-file, answer, read}
+use Rattle.redbin.specs.Examples.{refuses, outcome, gives, long}
+use Rattle.redbin.proofs.Fields.{then, refuse-passes, field-reads, field-last, length-fields}
 use Rattle.redbin.proofs.Loops.{stop}
 use Rattle.redbin.proofs.File.{start-reads}
 

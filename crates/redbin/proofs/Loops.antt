@@ -1,11 +1,11 @@
 -- Steps of a loop that reads one number, or one value, after another: for the proofs of the code.
-use mathlib.Core.Path.{_≡_, refl, sym, ap, _∙_}
+use mathlib.Core.Path.{_≡_, refl, _∙_}
 use mathlib.Core.List.{List, [], _∷_, _++_}
-use Prim.Native.Nat.{ℕ, zero, suc, _+_, _≤_, _<_}
+use Prim.Native.Nat.{ℕ, zero, suc, _+_, _<_}
 use native.Mathlib.Omega.{arith}
 use Rattle.steps.specs.Steps.{Name}
 use Rattle.redbin.proofs.Fields.{then}
-use Rattle.redbin.proofs.Got.{Came, came, same-reader, same-value}
+use Rattle.redbin.proofs.Got.{came, same-reader, same-value}
 use Rattle.redbin.proofs.Records.{each-append}
 use Rattle.redbin.specs.Reading.{Reader, Read, Reads, got, refused, after, below, series, each}
 use Rattle.refusal.specs.declared.Part.{Part}

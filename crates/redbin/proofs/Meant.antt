@@ -1,28 +1,25 @@
 -- What reading accepts in a memory, reading without a limit accepts too, with the same steps.
-use mathlib.Core.Path.{_≡_, refl, sym, ap, subst, _∙_}
-use mathlib.Core.Bool.{Bool, true, false, cond}
+use mathlib.Core.Path.{_≡_, refl}
+use mathlib.Core.Bool.{Bool}
 use mathlib.Core.List.{List, [], _∷_}
 use Prim.Native.Nat.{ℕ, zero, suc}
 use native.Mathlib.Omega.{arith}
-use lib.Dec.{eqb}
-use lib.ListN.{length, replicate, getD}
-use Rattle.std.specs.declared.result.Result.{Result}
+use lib.ListN.{length, replicate}
 use Rattle.std.specs.declared.result.Result.the-variants.{Ok, Err}
 use Rattle.steps.specs.declared.parts.ListKind.{ListKind}
 use Rattle.steps.specs.declared.parts.TextKind.{TextKind}
 use Rattle.steps.specs.declared.parts.Holder.{Holder}
-use Rattle.steps.specs.declared.parts.Holder.the-variants.{List as OfList, Object as OfObject}
+use Rattle.steps.specs.declared.parts.Holder.the-variants.{List as OfList}
 use Rattle.steps.specs.declared.parts.Share.{Share}
-use Rattle.steps.specs.Steps.{Name, Tag, Content, none, logic, char, integer, float, text, Steps, begin, put, open′, share, close}
+use Rattle.steps.specs.Steps.{Name, Tag, Content, none, logic, char, integer, float, text, Steps, put, close}
 use Rattle.steps.specs.Outline.{share-family}
 use Rattle.steps.specs.Law.{Memory, need, has-room, deepest}
 use Rattle.redbin.specs.declared.form.Form.{Form}
 use Rattle.redbin.specs.declared.form.Form.the-variants.{Nothing as is-none, Logic as is-logic, Char as is-char, Integer as is-integer, Float as is-float, Text as is-text, List as is-list, Object as is-object, ShareText as shares-text, ShareList as shares-list, ShareObject as shares-object}
-use Rattle.redbin.specs.Layout.{flags-place, table-flag}
-use Rattle.redbin.specs.Reading.{Reader, Read, Reads, got, refused, after, Uses, in-memory, unlimited, push, Setting, Heading, each, hold, bare, heading-of, behind-padding, heading, room, add, target, add-share, add-text, on-boundary, add-float, add-list, add-context, add-object, content, value, symbol-table, return, start-of-file, records, whole-file, answer, read, load, file-steps, signed, is-nonzero}
+use Rattle.redbin.specs.Reading.{Reader, Read, Reads, got, refused, after, in-memory, unlimited, push, Setting, each, hold, bare, heading-of, behind-padding, heading, room, add, target, add-share, add-text, on-boundary, add-float, add-list, add-context, add-object, content, value, records, whole-file, read, file-steps, signed, is-nonzero}
 use Rattle.redbin.specs.Promises.{Load-gives-file-steps}
 use Rattle.redbin.proofs.Fields.{then}
-use Rattle.redbin.proofs.Got.{Came, came, passed′}
+use Rattle.redbin.proofs.Got.{came, passed′}
 
 -- what the first accepts, the second accepts with the same outcome
 record Onward {A : Type 0} (p q : Reads A) : Type 0 where

@@ -1,25 +1,22 @@
 -- The steps on the way to a whole document: what they share with it.
-use mathlib.Core.Path.{_≡_, refl, sym, ap, subst, _∙_}
-use mathlib.Core.Logic.{_⊎_, inl, inr}
-use mathlib.Core.Bool.{Bool, true, false, cond, _&&_, _||_, not}
-use mathlib.Core.List.{List, [], _∷_, _++_, tail, append-assoc, append-nil}
-use Prim.Native.Nat.{ℕ, zero, suc, _+_, _-_, _*_, _/_, _%_, _^_, _≤_, _<_}
+use mathlib.Core.Path.{_≡_, refl, ap, _∙_}
+use mathlib.Core.Bool.{true, false}
+use mathlib.Core.List.{List, [], _∷_, _++_, tail, append-nil}
+use Prim.Native.Nat.{ℕ, suc, _+_, _-_, _≤_, _<_}
 use native.Mathlib.Omega.{arith}
-use lib.Dec.{eqb, ltb, leb, lit<, lit≤}
-use lib.ListN.{length, length-append, replicate}
+use lib.Dec.{eqb}
+use lib.ListN.{length, replicate}
 use Rattle.std.proofs.shelf.Lists.{nil-from-length}
-use Rattle.std.proofs.shelf.Tests.{ne-eqb, eq-eqb, eqb-true, eqb-false, ltb-true}
-use Rattle.std.specs.declared.option.Option.{Option}
+use Rattle.std.proofs.shelf.Tests.{ne-eqb, eqb-true}
 use Rattle.std.specs.declared.option.Option.the-variants.{Some, None}
-use Rattle.steps.specs.Law.{Memory, Lawful, Closed, refusal, unless, name-ok}
-use Rattle.steps.specs.Outline.{Entry, Opened, outline, values, opened, innermost, opening, in-object, same-holder, inner-names}
-use Rattle.steps.specs.Steps.{Steps, Step, Name, Tag, Content, Begun, begin, close, put, open′, share}
+use Rattle.steps.specs.Law.{Memory, Lawful, Closed, refusal, name-ok}
+use Rattle.steps.specs.Outline.{Entry, Opened, values, opened, innermost, opening, in-object, same-holder, inner-names}
+use Rattle.steps.specs.Steps.{Steps, Step, Name, Tag, Begun, begin, close, put, open′, share}
 use Rattle.steps.specs.declared.parts.Holder.{Holder}
 use Rattle.steps.specs.declared.parts.Node.the-variants.{At, Root}
 use Rattle.steps.specs.declared.parts.Node.{Node}
-use Rattle.steps.specs.declared.parts.Share.{Share}
 use Rattle.redbin.proofs.Paths.{Held, Sound, All-held, outline-sound}
-use Rattle.redbin.proofs.Whole.{Whole, nothing, a-put, a-share, a-holder, names, whole-opened, whole-count, whole-names, Allowed, allowed}
+use Rattle.redbin.proofs.Whole.{Whole, nothing, a-put, a-share, a-holder, names, whole-opened, whole-count, whole-names, allowed}
 use Rattle.refusal.specs.declared.Reason.the-variants.{NothingThere}
 
 -- the earlier values of a list of values

@@ -1,16 +1,15 @@
 -- The canonical path of a value leads to it, also after later steps.
-use mathlib.Core.Path.{_≡_, refl, sym, ap, subst, _∙_}
-use mathlib.Core.Logic.{_⊎_, inl, inr}
-use mathlib.Core.Bool.{Bool, true, false, cond, _&&_, _||_, not}
-use mathlib.Core.List.{List, [], _∷_, _++_, tail, append-assoc}
-use Prim.Native.Nat.{ℕ, zero, suc, _+_, _-_, _*_, _/_, _%_, _^_, _≤_, _<_}
+use mathlib.Core.Path.{_≡_, refl, ap, _∙_}
+use mathlib.Core.Bool.{Bool, true, false, cond}
+use mathlib.Core.List.{List, [], _∷_, _++_, tail}
+use Prim.Native.Nat.{ℕ, zero, suc, _+_, _-_, _≤_, _<_}
 use native.Mathlib.Omega.{arith}
-use lib.Dec.{eqb, ltb, leb, lit<, lit≤}
+use lib.Dec.{eqb}
 use lib.ListN.{length, length-append}
 use Rattle.std.proofs.shelf.Tests.{ne-eqb, eq-eqb, eqb-true, eqb-false}
 use Rattle.std.specs.declared.option.Option.{Option}
 use Rattle.std.specs.declared.option.Option.the-variants.{Some, None}
-use Rattle.steps.specs.Outline.{Entry, Opened, Outline, outline, values, opened, innermost, opening, same-holder, inner, begun-at, has-family, own-family, begun-suits, suits, target-or, through, at-place, nth, onward, walk, follow, way, path-of, path-to}
+use Rattle.steps.specs.Outline.{Entry, Opened, values, opened, innermost, same-holder, inner, begun-at, begun-suits, suits, target-or, through, at-place, nth, onward, walk, follow, way, path-of, path-to}
 use Rattle.steps.specs.Steps.{Steps, Step, Tag, Begun, begin, close, put, open′, share}
 use Rattle.steps.specs.declared.parts.Family.{Family}
 use Rattle.steps.specs.declared.parts.Node.the-variants.{At, Root}

@@ -1,27 +1,26 @@
 -- The record of a put value is read back as that put.
-use mathlib.Core.Path.{_≡_, refl, sym, ap, subst, _∙_}
+use mathlib.Core.Path.{_≡_, refl, ap}
 use mathlib.Core.Logic.{_⊎_, inl, inr}
-use mathlib.Core.Bool.{Bool, true, false, cond, _&&_, _||_, not}
+use mathlib.Core.Bool.{Bool, true, false, cond}
 use mathlib.Core.List.{List, [], _∷_, _++_, append-assoc}
-use Prim.Native.Nat.{ℕ, zero, suc, _+_, _-_, _*_, _/_, _%_, _^_, _≤_, _<_, min}
+use Prim.Native.Nat.{ℕ, zero, suc, _+_, _-_, _*_, _%_, _^_, _≤_, _<_}
 use native.Mathlib.Omega.{arith}
 use lib.Dec.{eqb, ltb, leb, lit<, lit≤}
 use lib.IntN.{ℤ, pos, negsuc}
-use lib.ListN.{length, take, drop, length-append, replicate, length-replicate}
-use Rattle.std.proofs.shelf.Tests.{and-from, le-leb, le-ltb, lt-ltb, ne-eqb, eq-eqb, eqb-true, eqb-false, ltb-true, leb-true, and-parts, cases-bool}
-use Rattle.steps.specs.Law.{Kind, cells, points, names, every-kind, need, Memory, codepoint-end, codepoints-ok, content-ok, has-room, used, usable}
+use lib.ListN.{length, length-append, length-replicate}
+use Rattle.std.proofs.shelf.Tests.{and-from, le-leb, le-ltb, eq-eqb, eqb-true, eqb-false, ltb-true, leb-true, and-parts}
+use Rattle.steps.specs.Law.{integer-end, field-end, float-end, word-end, Kind, cells, points, names, every-kind, need, Memory, codepoint-end, codepoints-ok, content-ok, has-room, used, usable}
 use Rattle.steps.specs.Outline.{Entry}
-use Rattle.steps.specs.Steps.{Steps, Tag, Name, Content, none, logic, char, integer, float, text, begin, put, Begun}
+use Rattle.steps.specs.Steps.{Steps, Tag, Name, Content, none, logic, char, integer, float, text, begin, put}
 use Rattle.steps.specs.declared.parts.TextKind.{TextKind}
 use Rattle.redbin.proofs.Drafted.{InDraft, in-draft}
-use Rattle.redbin.proofs.Fields.{rd, then, field-reads, field-last, below-reads, run-reads, Below, length-fields, length-bytes}
+use Rattle.redbin.proofs.Fields.{rd, then, field-reads, field-last, below-reads, run-reads, Below, length-fields}
 use Rattle.redbin.proofs.Headings.{heading-reads, heading-last, padded-reads}
-use Rattle.redbin.specs.Bytes.{bytes-of, number, fields, words, zeros, fill, all-below}
+use Rattle.redbin.specs.Bytes.{bytes-of, fields, words, zeros, fill, all-below}
 use Rattle.redbin.specs.Canonical.{unit, bits32, padding, record-of}
-use Rattle.redbin.specs.Layout.{header}
-use Rattle.redbin.specs.Reading.{bare, Heading, Reader, Read, Reads, got, after, push, below, series, run, heading, room, on-boundary, add, add-text, content, value, add-float, signed, is-nonzero}
+use Rattle.redbin.specs.Layout.{text-length-end, header}
+use Rattle.redbin.specs.Reading.{got, push, run, room, on-boundary, add, add-text, content, value, add-float, signed, is-nonzero}
 use Rattle.redbin.specs.declared.form.Form.the-variants.{Logic as is-logic, Integer as is-integer, Char as is-char, Nothing as is-none, Text as is-text, Float as is-float}
-use Rattle.redbin.specs.declared.form.Form.{Form}
 use Rattle.refusal.specs.declared.Part.the-variants.{Record}
 use Rattle.refusal.specs.declared.Part.{Part}
 use Rattle.refusal.specs.declared.Reason.the-variants.{BadContent, Large}
@@ -66,7 +65,7 @@ zeros-read size part why n more e =
     rw (fields-zeros n, length-replicate {A = ℕ} n 0) at h
 
 -- the unit that the canonical form takes fits the codepoints
-pub unit-fits : (ps : List ℕ) → Below 1114112 ps → ((unit ps ≡ 1) ⊎ ((unit ps ≡ 2) ⊎ (unit ps ≡ 4))) × Below (256 ^ unit ps) ps
+pub unit-fits : (ps : List ℕ) → Below codepoint-end ps → ((unit ps ≡ 1) ⊎ ((unit ps ≡ 2) ⊎ (unit ps ≡ 4))) × Below (256 ^ unit ps) ps
 unfolding unit
 unit-fits ps h = go (all-below 256 ps) (all-below 65536 ps) refl refl
   where
@@ -76,7 +75,7 @@ unit-fits ps h = go (all-below 256 ps) (all-below 65536 ps) refl refl
     go : (a b : Bool) → all-below 256 ps ≡ a → all-below 65536 ps ≡ b → Good (cond a 1 (cond b 2 4))
     go true b p q = (inl refl, below-all 256 ps p)
     go false true p q = (inr (inl refl), below-all 65536 ps q)
-    go false false p q = (inr (inr refl), below-more 1114112 (256 ^ 4) ps (lit≤ tt) h)
+    go false false p q = (inr (inr refl), below-more codepoint-end (256 ^ 4) ps (lit≤ tt) h)
 
 pub every-all : (f : Kind → Bool) → every-kind f ≡ true → (k : Kind) → f k ≡ true
 every-all f h cells = and-parts (f cells) _ h .0
@@ -89,40 +88,40 @@ room-parts m e n h k = leb-true (used e k + n k) (usable m k) (every-all (λ x. 
 pub room-from : (m : Memory) (e : Steps) (n : Memory) → ((k : Kind) → used e k + n k ≤ usable m k) → has-room m e n ≡ true
 room-from m e n h = and-from _ _ (le-leb _ _ (h cells)) (and-from _ _ (le-leb _ _ (h points)) (le-leb _ _ (h names)))
 
-points-small : (m : Memory) (e : Steps) (n : Name) (k : TextKind) (head : ℕ) (ps : List ℕ) → has-room m e (need n (put (text k head ps))) ≡ true → length ps < 16777216
+points-small : (m : Memory) (e : Steps) (n : Name) (k : TextKind) (head : ℕ) (ps : List ℕ) → has-room m e (need n (put (text k head ps))) ≡ true → length ps < text-length-end
 points-small m e n k head ps h = omega (arith, room-parts m e (need n (put (text k head ps))) h points)
 
 text-reads : (c : InDraft) (start : ℕ) (l : Tag) (k : TextKind) (head : ℕ) (ps : List ℕ) (more : List ℕ) (e : Steps)
-    → head < 2147483648 → Below 1114112 ps → has-room (c .memory) e (need (l .name) (put (text k head ps))) ≡ true
+    → head < field-end → Below codepoint-end ps → has-room (c .memory) e (need (l .name) (put (text k head ps))) ≡ true
     → add-text (in-draft c) start l k (unit ps) (rd (words (head ∷ length ps ∷ []) ++ (fields (unit ps) ps ++ (zeros (fill 4 (unit ps * length ps)) ++ more))) e)
     ≡ got tt (rd more (begin l (put (text k head ps)) ∷ e))
 unfolding add-text
 text-reads c start l k head ps more e hh hp r =
-    let s : length ps < 16777216 = points-small (c .memory) e (l .name) k head ps r in
-    then _ (field-reads (c .size) Record 4 2147483648 Large head (length ps ∷ []) _ e (omega arith) hh)
-    (then _ (field-last (c .size) Record 4 16777216 Large (length ps) _ e (omega arith) s)
-    (then _ (run-reads (c .size) Record (unit ps) 1114112 BadContent ps _ e (unit-fits ps hp .1) hp)
+    let s : length ps < text-length-end = points-small (c .memory) e (l .name) k head ps r in
+    then _ (field-reads (c .size) Record 4 field-end Large head (length ps ∷ []) _ e (omega arith) hh)
+    (then _ (field-last (c .size) Record 4 text-length-end Large (length ps) _ e (omega arith) s)
+    (then _ (run-reads (c .size) Record (unit ps) codepoint-end BadContent ps _ e (unit-fits ps hp .1) hp)
     (then _ (zeros-read (c .size) Record BadContent (fill 4 (unit ps * length ps)) more e)
     (add-reads c start l (text k head ps) more e r))))
 
 -- a float behind its header
 float-reads : (c : InDraft) (start : ℕ) (l : Tag) (x : ℕ) (more : List ℕ) (e : Steps)
-    → x < 18446744073709551616 → has-room (c .memory) e (need (l .name) (put (float x))) ≡ true → (c .payload - length (bytes-of 8 x ++ more)) % 8 ≡ 0
+    → x < float-end → has-room (c .memory) e (need (l .name) (put (float x))) ≡ true → (c .payload - length (bytes-of 8 x ++ more)) % 8 ≡ 0
     → add-float (in-draft c) start l (rd (bytes-of 8 x ++ more) e) ≡ got tt (rd more (begin l (put (float x)) ∷ e))
 unfolding add-float on-boundary
 float-reads c start l x more e hx r b =
     let t : eqb ((c .payload - length (bytes-of 8 x ++ more)) % 8) 0 ≡ true = eq-eqb _ _ b in
     let b : on-boundary (in-draft c) (rd (bytes-of 8 x ++ more) e) ≡ got tt (rd (bytes-of 8 x ++ more) e) = rw t in
-    then _ b (then _ (below-reads (c .size) Record 8 18446744073709551616 Large x more e hx hx) (add-reads c start l (float x) more e r))
+    then _ b (then _ (below-reads (c .size) Record 8 float-end Large x more e hx hx) (add-reads c start l (float x) more e r))
 
-signed-bits : (z : ℤ) → content-ok (integer z) ≡ true → (bits32 z < 4294967296) × (signed (bits32 z) ≡ z)
+signed-bits : (z : ℤ) → content-ok (integer z) ≡ true → (bits32 z < word-end) × (signed (bits32 z) ≡ z)
 signed-bits (pos n) h =
-    let l = ltb-true n 2147483648 h in
+    let l = ltb-true n integer-end h in
     (omega arith, rw h)
 signed-bits (negsuc n) h =
-    let l = ltb-true n 2147483648 h in
-    let f : ltb (4294967295 - n) 2147483648 ≡ false = le-ltb _ _ (omega arith) in
-    let g : 4294967295 - (4294967295 - n) ≡ n = omega arith in
+    let l = ltb-true n integer-end h in
+    let f : ltb ((word-end - 1) - n) integer-end ≡ false = le-ltb _ _ (omega arith) in
+    let g : (word-end - 1) - ((word-end - 1) - n) ≡ n = omega arith in
     (omega arith, rw (f, g))
 
 nonzero-cond : (b : Bool) → is-nonzero (cond b 1 0) ≡ b
@@ -149,13 +148,13 @@ put-reads c d all before place l (logic b) more e ok r a s =
     (then _ (field-last (c .size) Record 4 2 BadContent (cond b 1 0) more e q (cond-below b))
     (rw (nonzero-cond b) (add-reads c _ l (logic b) more e r)))
 put-reads c d all before place l (char n) more e ok r a s =
-    let q = ltb-true n 1114112 ok in
+    let q = ltb-true n codepoint-end ok in
     then _ (heading-reads c is-char (l .new-line) (n ∷ []) more e tt)
-    (then _ (field-last (c .size) Record 4 1114112 BadContent n more e (omega arith) q) (add-reads c _ l (char n) more e r))
+    (then _ (field-last (c .size) Record 4 codepoint-end BadContent n more e (omega arith) q) (add-reads c _ l (char n) more e r))
 put-reads c d all before place l (integer z) more e ok r a s =
     let q = signed-bits z ok in
     then _ (heading-reads c is-integer (l .new-line) (bits32 z ∷ []) more e tt)
-    (then _ (field-last (c .size) Record 4 4294967296 Large (bits32 z) more e (q .0) (q .0))
+    (then _ (field-last (c .size) Record 4 word-end Large (bits32 z) more e (q .0) (q .0))
     (rw (q .1) (add-reads c _ l (integer z) more e r)))
 put-reads c d all before place l (float x) more e ok r a s =
     go (eqb (place % 8) 0) refl
@@ -163,8 +162,8 @@ put-reads c d all before place l (float x) more e ok r a s =
     W : List ℕ
     W = words (header is-float (l .new-line) ∷ [])
 
-    h : x < 18446744073709551616
-    h = ltb-true x 18446744073709551616 ok
+    h : x < float-end
+    h = ltb-true x float-end ok
 
     s₀ : place + length ((padding place ++ (W ++ bytes-of 8 x)) ++ more) ≡ c .payload
     s₀ = s
@@ -183,8 +182,8 @@ put-reads c d all before place l (float x) more e ok r a s =
 put-reads c d all before place l (text k h ps) more e ok r a s =
     let W = words (header (is-text k (unit ps)) (l .new-line) ∷ h ∷ length ps ∷ []) in
     let Z = zeros (fill 4 (unit ps * length ps)) in
-    let p = and-parts (ltb h 2147483648) (codepoints-ok ps) ok in
+    let p = and-parts (ltb h field-end) (codepoints-ok ps) ok in
     let b = below-codepoints ps (p .1) in
     rw (append-assoc W (fields (unit ps) ps ++ Z) more, append-assoc (fields (unit ps) ps) Z more)
     (then _ (heading-reads c (is-text k (unit ps)) (l .new-line) (h ∷ length ps ∷ []) _ e (unit-fits ps b .0))
-    (text-reads c _ l k h ps more e (ltb-true h 2147483648 (p .0)) b r))
+    (text-reads c _ l k h ps more e (ltb-true h field-end (p .0)) b r))

@@ -1,31 +1,28 @@
 -- The records of whole values are read back as the steps that they came from.
-use mathlib.Core.Path.{_≡_, refl, sym, ap, subst, _∙_}
-use mathlib.Core.Logic.{_⊎_, inl, inr}
-use mathlib.Core.Bool.{Bool, true, false, cond, _&&_, _||_, not}
-use mathlib.Core.List.{List, [], _∷_, _++_, map, append-assoc, append-nil}
-use Prim.Native.Nat.{ℕ, zero, suc, _+_, _-_, _*_, _/_, _%_, _^_, _≤_, _<_}
+use mathlib.Core.Path.{_≡_, refl, ap, _∙_}
+use mathlib.Core.Bool.{Bool, true, false, cond}
+use mathlib.Core.List.{List, [], _∷_, _++_, append-assoc}
+use Prim.Native.Nat.{ℕ, zero, suc, _+_, _-_, _*_, _%_, _≤_}
 use native.Mathlib.Omega.{arith}
-use lib.Dec.{eqb, ltb, leb, lit<, lit≤}
-use lib.ListN.{length, length-append, replicate, length-map, length-replicate}
+use lib.Dec.{eqb}
+use lib.ListN.{length, length-append, length-replicate}
 use Rattle.std.proofs.shelf.Tests.{and-parts}
-use Rattle.std.specs.declared.option.Option.{Option}
-use Rattle.std.specs.declared.option.Option.the-variants.{Some, None}
-use Rattle.steps.specs.Law.{Memory, begun-ok, content-ok, holder-ok, share-ok, has-room}
-use Rattle.steps.specs.Outline.{Entry, values, opened, in-object, same-holder, inner-names, path-of, suits, share-family}
-use Rattle.steps.specs.Steps.{Steps, Step, Name, Tag, Content, Begun, none, logic, char, integer, float, text, begin, close, put, open′, share}
+use Rattle.steps.specs.Law.{word-end, Memory, share-ok}
+use Rattle.steps.specs.Outline.{Entry, values, opened, same-holder, inner-names, suits, share-family}
+use Rattle.steps.specs.Steps.{Steps, Name, Tag, Content, Begun, none, logic, char, integer, float, text, begin, close, put, open′, share}
 use Rattle.steps.specs.declared.parts.Holder.the-variants.{Object as OfObject, List as OfList}
 use Rattle.steps.specs.declared.parts.Holder.{Holder}
 use Rattle.steps.specs.declared.parts.Node.the-variants.{At}
 use Rattle.steps.specs.declared.parts.Node.{Node}
 use Rattle.steps.specs.declared.parts.Share.the-variants.{Text as ShareText, Object as ShareObject, List as ShareList}
 use Rattle.steps.specs.declared.parts.Share.{Share}
-use Rattle.redbin.proofs.Drafted.{InDraft, in-draft}
+use Rattle.redbin.proofs.Drafted.{in-draft}
 use Rattle.redbin.proofs.Fields.{rd, then, length-fields, length-bytes}
 use Rattle.redbin.proofs.Holders.{reading, list-reads, object-reads}
-use Rattle.redbin.proofs.Parts.{Part-of, part-tail, part-start, holder-names, names-outside, Within}
+use Rattle.redbin.proofs.Parts.{Part-of, part-tail, part-start, holder-names, names-outside}
 use Rattle.redbin.proofs.Puts.{put-reads}
 use Rattle.redbin.proofs.Shares.{share-reads}
-use Rattle.redbin.proofs.Symbols.{Among, object-among}
+use Rattle.redbin.proofs.Symbols.{object-among}
 use Rattle.redbin.proofs.Whole.{Whole, nothing, a-put, a-share, a-holder, names, bytes, whole-payload, whole-opened, Allowed, allowed}
 use Rattle.redbin.specs.Bytes.{bytes-of, fields, words, zeros, fill}
 use Rattle.redbin.specs.Canonical.{padding, unit, symbols, record-of, payload}
@@ -95,7 +92,7 @@ inner-names-length (x ∷ xs) h =
     last true = omega arith
     last false = omega arith
 
-module _ (size : ℕ) (m : Memory) (pay : ℕ) (all : List Entry) (few : length all ≤ 16384) (few-names : length (symbols all) ≤ 4294967296) where
+module _ (size : ℕ) (m : Memory) (pay : ℕ) (all : List Entry) (few : length all ≤ 16384) (few-names : length (symbols all) ≤ word-end) where
   put-step : (d : ℕ) (l : Tag) (v : Content) (e : Steps) (more : List ℕ) → Allowed m e l (put v) → d + length (opened e) ≡ 32
       → length (payload all e) + length (record-of all (values e) (length (payload all e)) l (put v) ++ more) ≡ pay
       → value (in-draft (reading size m all pay)) d (l .name) (rd (record-of all (values e) (length (payload all e)) l (put v) ++ more) e) ≡ got tt (rd more (begin l (put v) ∷ e))

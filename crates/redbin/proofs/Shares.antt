@@ -1,29 +1,28 @@
 -- The record of a share is read back as that share.
-use mathlib.Core.Path.{_≡_, refl, sym, ap, subst, _∙_}
-use mathlib.Core.Bool.{Bool, true, false, cond, _&&_, _||_, not}
-use mathlib.Core.List.{List, [], _∷_, _++_, append-assoc}
-use Prim.Native.Nat.{ℕ, zero, suc, _+_, _-_, _*_, _/_, _%_, _^_, _≤_, _<_, min}
+use mathlib.Core.Path.{_≡_, refl}
+use mathlib.Core.Bool.{true}
+use mathlib.Core.List.{List, [], _∷_, _++_}
+use Prim.Native.Nat.{ℕ, suc, _+_, _-_, _^_, _<_}
 use native.Mathlib.Omega.{arith}
-use lib.Dec.{eqb, ltb, leb, lit<, lit≤}
+use lib.Dec.{lit<}
 use lib.ListN.{length}
-use Rattle.std.proofs.shelf.Tests.{ltb-true, leb-true, and-parts}
-use Rattle.steps.specs.Law.{cells, need, Memory, has-room, share-ok, used, usable}
-use Rattle.steps.specs.Outline.{Entry, values, suits, share-family, follow, path-to}
+use Rattle.std.proofs.shelf.Tests.{ltb-true}
+use Rattle.steps.specs.Law.{field-end, word-end, cells, need, Memory, has-room, share-ok, used}
+use Rattle.steps.specs.Outline.{Entry, values, suits, share-family, path-to}
 use Rattle.steps.specs.Steps.{Begun, none, logic, char, integer, float, text, Steps, Tag, Name, begin, close, put, open′, share}
 use Rattle.steps.specs.declared.parts.Family.{Family}
 use Rattle.steps.specs.declared.parts.Node.{Node}
 use Rattle.steps.specs.declared.parts.Share.the-variants.{Text as ShareText, List as ShareList, Object as ShareObject}
 use Rattle.steps.specs.declared.parts.Share.{Share}
 use Rattle.redbin.proofs.Drafted.{InDraft, in-draft}
-use Rattle.redbin.proofs.Fields.{rd, then, field-reads, run-reads, Below}
+use Rattle.redbin.proofs.Fields.{rd, then, field-reads, run-reads}
 use Rattle.redbin.proofs.Headings.{heading-reads}
 use Rattle.redbin.proofs.Paths.{follow-path, path-to-below}
 use Rattle.redbin.proofs.Puts.{room-reads, room-parts, below-more}
-use Rattle.redbin.specs.Bytes.{bytes-of, number, fields, words}
+use Rattle.redbin.specs.Bytes.{words}
 use Rattle.redbin.specs.Canonical.{reference, record-of}
-use Rattle.redbin.specs.Layout.{header}
-use Rattle.redbin.specs.Reading.{bare, Reader, Read, Reads, got, after, here, push, refuse-when, below, run, heading, room, target, target-at, add-share, content, value}
-use Rattle.redbin.specs.declared.form.Form.the-variants.{ShareObject as shares-object, List as is-list, ShareList as shares-list, ShareText as shares-text}
+use Rattle.redbin.specs.Reading.{bare, got, here, push, refuse-when, target, add-share, content, value}
+use Rattle.redbin.specs.declared.form.Form.the-variants.{ShareObject as shares-object, ShareList as shares-list, ShareText as shares-text}
 use Rattle.refusal.specs.declared.Part.the-variants.{Reference, Record}
 use Rattle.refusal.specs.declared.Reason.the-variants.{Large}
 
@@ -58,12 +57,12 @@ add-share-reads c start l s t more e h r =
     let p = path-to (values e) t in
     let b = path-to-below (values e) t in
     let k = count-small (c .memory) e (l .name) (share s t) r in
-    let n : length p < 2147483648 = omega arith in
+    let n : length p < field-end = omega arith in
     then _ refl
-    (then _ (field-reads (c .size) Reference 4 4294967296 Large 255 (length p ∷ p) more e (lit< tt) (lit< tt))
+    (then _ (field-reads (c .size) Reference 4 word-end Large 255 (length p ∷ p) more e (lit< tt) (lit< tt))
     (then _ refl (then _ refl
-    (then _ (field-reads (c .size) Reference 4 2147483648 Large (length p) p more e (omega arith) n)
-    (then _ (run-reads (c .size) Reference 4 2147483648 Large p more e (below-more _ (256 ^ 4) p (omega arith) (b .0)) (below-more _ 2147483648 p (omega arith) (b .0)))
+    (then _ (field-reads (c .size) Reference 4 field-end Large (length p) p more e (omega arith) n)
+    (then _ (run-reads (c .size) Reference 4 field-end Large p more e (below-more _ (256 ^ 4) p (omega arith) (b .0)) (below-more _ field-end p (omega arith) (b .0)))
     (then _ (target-reads c _ (share-family s) t more e h)
     (then _ (room-reads c start (bare (l .name)) more e r) refl)))))))
 
@@ -72,14 +71,14 @@ pub share-reads : (c : InDraft) (d : ℕ) (all : List Entry) (place : ℕ) (l : 
     → value (in-draft c) (suc d) (l .name) (rd (record-of all (values e) place l (share s t) ++ more) e) ≡ got tt (rd more (begin l (share s t) ∷ e))
 unfolding value content record-of
 share-reads c d all place l (ShareList k n) t more e ok h r =
-    let q = ltb-true n 2147483648 ok in
+    let q = ltb-true n field-end ok in
     then _ (heading-reads c (shares-list k) (l .new-line) (n ∷ reference (path-to (values e) t)) more e tt)
-    (then _ (field-reads (c .size) Record 4 2147483648 Large n (reference (path-to (values e) t)) more e (omega arith) q)
+    (then _ (field-reads (c .size) Record 4 field-end Large n (reference (path-to (values e) t)) more e (omega arith) q)
     (add-share-reads c _ l (ShareList k n) t more e h r))
 share-reads c d all place l (ShareText k n) t more e ok h r =
-    let q = ltb-true n 2147483648 ok in
+    let q = ltb-true n field-end ok in
     then _ (heading-reads c (shares-text k) (l .new-line) (n ∷ reference (path-to (values e) t)) more e tt)
-    (then _ (field-reads (c .size) Record 4 2147483648 Large n (reference (path-to (values e) t)) more e (omega arith) q)
+    (then _ (field-reads (c .size) Record 4 field-end Large n (reference (path-to (values e) t)) more e (omega arith) q)
     (add-share-reads c _ l (ShareText k n) t more e h r))
 share-reads c d all place l (ShareObject w) t more e ok h r =
     then _ (heading-reads c (shares-object w) (l .new-line) (reference (path-to (values e) t)) more e tt)

@@ -1,29 +1,29 @@
 -- The symbol table that was written is read back.
-use mathlib.Core.Path.{_≡_, refl, sym, ap, subst, _∙_}
-use mathlib.Core.Bool.{Bool, true, false, cond, _&&_, _||_, not}
+use mathlib.Core.Path.{_≡_, refl, ap, _∙_}
+use mathlib.Core.Bool.{Bool, true, false, cond}
 use mathlib.Core.List.{List, [], _∷_, _++_, append-assoc, append-nil}
-use Prim.Native.Nat.{ℕ, zero, suc, _+_, _-_, _*_, _/_, _%_, _^_, _≤_, _<_}
+use Prim.Native.Nat.{ℕ, zero, suc, _+_, _-_, _^_, _≤_}
 use native.Mathlib.Omega.{arith}
-use lib.Dec.{eqb, ltb, leb, lit<, lit≤}
-use lib.ListN.{length, length-append, take, drop}
+use lib.Dec.{eqb, ltb, leb}
+use lib.ListN.{length, length-append, drop}
 use Rattle.std.proofs.shelf.Lists.{take-at, drop-at}
-use Rattle.std.proofs.shelf.Tests.{and-parts, ltb-true}
+use Rattle.std.proofs.shelf.Tests.{and-parts}
 use Rattle.std.specs.declared.option.Option.{Option}
-use Rattle.std.specs.declared.option.Option.the-variants.{Some, None}
-use Rattle.steps.specs.Law.{Memory, Lawful, name-ok}
+use Rattle.std.specs.declared.option.Option.the-variants.{Some}
+use Rattle.steps.specs.Law.{field-end, word-end, Memory, Lawful, name-ok}
 use Rattle.steps.specs.Outline.{Entry, Opened, values, opened, in-object, inner-names}
-use Rattle.steps.specs.Steps.{Steps, Step, Name, Tag, begin, close, put, open′, share}
+use Rattle.steps.specs.Steps.{Steps, Name, close, put, open′, share}
 use Rattle.steps.specs.Utf8.{lawful-name, no-zero}
 use Rattle.steps.specs.declared.parts.Holder.the-variants.{Object as OfObject, List as OfList}
-use Rattle.steps.specs.declared.parts.Holder.{Holder}
 use Rattle.steps.specs.declared.parts.Node.the-variants.{At}
+use Rattle.redbin.specs.Layout.{largest-file}
 use Rattle.redbin.proofs.Fields.{rd, then, field-reads, run-reads, enough-reads, Below, length-fields}
 use Rattle.redbin.proofs.Parts.{Part-of, part-tail, part-start, start-lawful, holder-names}
 use Rattle.redbin.proofs.Puts.{below-more}
-use Rattle.redbin.proofs.Whole.{Whole, nothing, a-put, a-share, a-holder, names, whole-opened, Allowed, allowed}
-use Rattle.redbin.specs.Bytes.{fields, words, zeros, fill, same}
-use Rattle.redbin.specs.Canonical.{without, once, names-if-object, written-names, symbols, stored, strings, offsets, table, flags-for}
-use Rattle.redbin.specs.Reading.{Reader, Read, Reads, got, after, here, skip, enough, run, until-zero, before, if-lawful, name-at, name-or-refuse, names-at, symbol-table, return}
+use Rattle.redbin.proofs.Whole.{Whole, nothing, a-put, a-share, a-holder, names, whole-opened, allowed}
+use Rattle.redbin.specs.Bytes.{words, zeros, fill, same}
+use Rattle.redbin.specs.Canonical.{without, once, written-names, symbols, stored, strings, offsets, table, flags-for}
+use Rattle.redbin.specs.Reading.{Reader, got, here, skip, run, until-zero, before, if-lawful, name-at, name-or-refuse, names-at, symbol-table, return}
 use Rattle.refusal.specs.declared.Part.the-variants.{Symbols}
 use Rattle.refusal.specs.declared.Reason.the-variants.{Large}
 
@@ -130,7 +130,7 @@ offsets-below o (n ∷ ns) =
     let s = length-append n (0 ∷ zeros (fill 8 (length n + 1))) in
     (omega arith, below-more _ _ (offsets (o + length (stored n)) ns) (omega arith) (offsets-below (o + length (stored n)) ns))
 
-symbol-table-reads : (size : ℕ) (n : Name) (ns : List Name) (more : List ℕ) (e : Steps) → All-lawful (n ∷ ns) → length (table (n ∷ ns)) ≤ 1048576
+symbol-table-reads : (size : ℕ) (n : Name) (ns : List Name) (more : List ℕ) (e : Steps) → All-lawful (n ∷ ns) → length (table (n ∷ ns)) ≤ largest-file
     → symbol-table size (rd (table (n ∷ ns) ++ more) e) ≡ got (n ∷ ns) (rd more e)
 unfolding symbol-table here skip
 symbol-table-reads size n ns more e h small =
@@ -142,18 +142,18 @@ symbol-table-reads size n ns more e h small =
     let b = length-fields 4 (length all ∷ length S ∷ os) in
     let c = offsets-length 0 all in
     let o : Below (256 ^ 4) os = below-more _ (256 ^ 4) os (omega arith) (offsets-below 0 all) in
-    let r : run size Symbols 4 4294967296 Large (length all) (rd (words os ++ (S ++ more)) e) ≡ got os (rd (S ++ more) e) =
-    rw c at (run-reads size Symbols 4 4294967296 Large os (S ++ more) e o o) in
+    let r : run size Symbols 4 word-end Large (length all) (rd (words os ++ (S ++ more)) e) ≡ got os (rd (S ++ more) e) =
+    rw c at (run-reads size Symbols 4 word-end Large os (S ++ more) e o o) in
     rw (append-assoc W S more)
-    (then _ (field-reads size Symbols 4 2147483648 Large (length all) (length S ∷ os) (S ++ more) e (omega arith) (omega arith))
-    (then _ (field-reads size Symbols 4 2147483648 Large (length S) os (S ++ more) e (omega arith) (omega arith))
+    (then _ (field-reads size Symbols 4 field-end Large (length all) (length S ∷ os) (S ++ more) e (omega arith) (omega arith))
+    (then _ (field-reads size Symbols 4 field-end Large (length S) os (S ++ more) e (omega arith) (omega arith))
     (then _ refl
     (then _ r
     (then _ (enough-reads size Symbols (length S) (S ++ more) e (omega (arith, length-append S more)))
     (then _ refl
     (rw (take-at S more (length S) refl, drop-at S more (length S) refl) (names-at-reads [] all _ _ h))))))))
 
-pub table-reads : (size : ℕ) (ns : List Name) (more : List ℕ) (e : Steps) → All-lawful ns → length (table ns) ≤ 1048576
+pub table-reads : (size : ℕ) (ns : List Name) (more : List ℕ) (e : Steps) → All-lawful ns → length (table ns) ≤ largest-file
     → cond (eqb (flags-for ns) 4) (symbol-table size) (return []) (rd (table ns ++ more) e) ≡ got ns (rd more e)
 table-reads size [] more e h small = refl
 table-reads size (n ∷ ns) more e h small = symbol-table-reads size n ns more e h small

@@ -1,26 +1,24 @@
 -- Steps that begin whole values, and what they add to the outline.
-use mathlib.Core.Path.{_≡_, refl, sym, ap, subst, _∙_}
-use mathlib.Core.Logic.{_⊎_, inl, inr}
-use mathlib.Core.Bool.{Bool, true, false, cond, _&&_, _||_, not}
+use mathlib.Core.Path.{_≡_, refl, sym, ap, _∙_}
+use mathlib.Core.Bool.{Bool, true, false, cond}
 use mathlib.Core.List.{List, [], _∷_, _++_, tail, append-assoc, append-nil}
-use Prim.Native.Nat.{ℕ, zero, suc, _+_, _-_, _*_, _/_, _%_, _^_, _≤_, _<_}
+use Prim.Native.Nat.{ℕ, suc, _+_, _-_, _≤_, _<_}
 use native.Mathlib.Omega.{arith}
-use lib.Dec.{eqb, ltb, leb, lit<, lit≤}
-use lib.ListN.{length, length-append, replicate}
-use Rattle.std.proofs.shelf.Tests.{ne-eqb, eq-eqb, eqb-true, eqb-false, ltb-true}
+use lib.Dec.{ltb}
+use lib.ListN.{length}
+use Rattle.std.proofs.shelf.Tests.{ne-eqb, eq-eqb, ltb-true}
 use Rattle.std.specs.declared.option.Option.{Option}
-use Rattle.std.specs.declared.option.Option.the-variants.{Some, None}
-use Rattle.steps.specs.Law.{need, Memory, Lawful, refusal, unless, name-ok, begun-ok, has-room}
-use Rattle.steps.specs.Outline.{Entry, Opened, outline, values, opened, innermost, opening, in-object, same-holder, inner, inner-names}
-use Rattle.steps.specs.Steps.{Steps, Step, Name, Tag, Content, Begun, begin, close, put, open′, share}
+use Rattle.std.specs.declared.option.Option.the-variants.{None}
+use Rattle.steps.specs.Law.{need, Memory, refusal, unless, name-ok, begun-ok, has-room}
+use Rattle.steps.specs.Outline.{Entry, values, opened, innermost, same-holder, inner-names}
+use Rattle.steps.specs.Steps.{Steps, Name, Tag, Content, Begun, begin, close, put, open′, share}
 use Rattle.steps.specs.declared.parts.Holder.{Holder}
 use Rattle.steps.specs.declared.parts.Node.the-variants.{At, Root}
 use Rattle.steps.specs.declared.parts.Node.{Node}
 use Rattle.steps.specs.declared.parts.Share.{Share}
-use Rattle.redbin.proofs.Paths.{Held, Sound, All-held, held-innermost, outline-sound}
+use Rattle.redbin.proofs.Paths.{Held, held-innermost, outline-sound}
 use Rattle.redbin.specs.Canonical.{record-of, payload}
-use Rattle.redbin.specs.Reading.{bare}
-use Rattle.refusal.specs.declared.Reason.the-variants.{NothingThere, NotAllowed, BadName, NoMemory, TooDeep}
+use Rattle.refusal.specs.declared.Reason.the-variants.{NotAllowed, BadName, NoMemory, TooDeep}
 use Rattle.refusal.specs.declared.Reason.{Reason}
 
 -- what a lawful step that begins a value was allowed by

@@ -1,5 +1,5 @@
 -- The canonical form: the one file that stands for steps in which nothing is open.
-use mathlib.Core.Bool.{Bool, true, false, cond}
+use mathlib.Core.Bool.{cond}
 use mathlib.Core.List.{List, [], _∷_, _++_, map}
 use Prim.Native.Nat.{ℕ, suc, _+_, _-_, _*_, _%_}
 use lib.Dec.{eqb}
@@ -8,7 +8,7 @@ use lib.ListN.{length}
 use Rattle.steps.specs.declared.parts.Node.the-variants.{Root, At}
 use Rattle.steps.specs.declared.parts.Holder.the-variants.{List as OfList, Object as OfObject}
 use Rattle.steps.specs.declared.parts.Share.the-variants.{List as ShareList, Text as ShareText, Object as ShareObject}
-use Rattle.steps.specs.Steps.{Name, Tag, Content, none, logic, char, integer, float, text, Begun, put, open′, share, Step, begin, close, Steps}
+use Rattle.steps.specs.Steps.{Name, Tag, none, logic, char, integer, float, text, Begun, put, open′, share, begin, close, Steps}
 use Rattle.steps.specs.Outline.{Entry, values, inner-names, path-to}
 use Rattle.steps.specs.Law.{word-end}
 use Rattle.redbin.specs.declared.form.Form.the-variants.{Nothing as is-none, Logic as is-logic, Char as is-char, Integer as is-integer, Float as is-float, Text as is-text, List as is-list, Object as is-object, ShareText as shares-text, ShareList as shares-list, ShareObject as shares-object}

@@ -2,9 +2,9 @@
 use mathlib.Core.Path.{_≡_}
 use mathlib.Core.Bool.{true, false}
 use mathlib.Core.List.{List, [], _∷_, _++_}
-use Prim.Native.Nat.{ℕ, zero, suc, _+_, _*_}
+use Prim.Native.Nat.{ℕ, zero, suc, _+_}
 use lib.IntN.{pos, negsuc}
-use lib.ListN.{length, take, drop, replicate}
+use lib.ListN.{length, drop, replicate}
 use Rattle.std.specs.declared.result.Result.{Result}
 use Rattle.std.specs.declared.result.Result.the-variants.{Ok, Err}
 use Rattle.refusal.specs.declared.Part.{Part}
@@ -16,8 +16,8 @@ use Rattle.steps.specs.declared.parts.ListKind.the-variants.{Block, Paren, Path
 use Rattle.steps.specs.declared.parts.Node.the-variants.{At}
 use Rattle.steps.specs.declared.parts.Holder.the-variants.{List as OfList, Object as OfObject}
 use Rattle.steps.specs.declared.parts.Share.the-variants.{List as ShareList, Text as ShareText, Object as ShareObject}
-use Rattle.steps.specs.Steps.{Name, Tag, none, logic, char, integer, float, text, Begun, put, open′, share, Step, begin, close, Steps}
-use Rattle.steps.specs.Law.{Memory, so-much, limit}
+use Rattle.steps.specs.Steps.{Name, none, logic, char, integer, float, text, Begun, put, open′, share, Step, begin, close, Steps}
+use Rattle.steps.specs.Law.{so-much, limit}
 use Rattle.redbin.specs.Bytes.{words}
 use Rattle.redbin.specs.Canonical.{canonical}
 use Rattle.redbin.specs.Reading.{load, file-steps}

@@ -26,7 +26,7 @@ use Rattle.steps.specs.declared.parts.Holder.the-variants.{List as OfList, Obje
 use Rattle.steps.specs.declared.parts.Share.{Share}
 use Rattle.steps.specs.declared.parts.Share.the-variants.{List as ShareList, Text as ShareText, Object as ShareObject}
 use Rattle.steps.specs.Utf8.{lawful-name}
-use Rattle.steps.specs.Steps.{Name, Tag, Content, none, logic, char, integer, float, text, Begun, put, open′, share, Step, begin, close, Steps}
+use Rattle.steps.specs.Steps.{Name, Tag, Content, none, logic, char, integer, float, text, put, open′, share, Step, begin, close, Steps}
 use Rattle.steps.specs.Outline.{Entry, values, suits, follow, share-family}
 use Rattle.steps.specs.Law.{Memory, so-much, has-room, need, codepoint-end, field-end, integer-end, word-end, float-end, deepest}
 use Rattle.redbin.specs.declared.form.Form.{Form}
