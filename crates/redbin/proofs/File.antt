@@ -7,7 +7,7 @@ use native.Mathlib.Omega.{arith}
 use lib.Dec.{eqb}
 use lib.ListN.{length, length-append, replicate}
 use Rattle.std.proofs.shelf.Tests.{le-ltb, or-from}
-use Rattle.steps.specs.Law.{field-end, Memory, Lawful, Closed}
+use Rattle.steps.specs.Law.{limit, cells, deepest, field-end, Memory, Lawful, Closed}
 use Rattle.steps.specs.Outline.{values, inner-names}
 use Rattle.steps.specs.Steps.{Steps, Name, begin, close}
 use Rattle.steps.specs.declared.parts.Node.the-variants.{Root}
@@ -27,7 +27,7 @@ use Rattle.refusal.specs.declared.Part.the-variants.{Header}
 use Rattle.refusal.specs.declared.Reason.the-variants.{Large}
 use Rattle.std.specs.declared.result.Result.the-variants.{Ok}
 
-lawful-count : (m : Memory) (e : Steps) → Lawful m e → length (values e) ≤ 16384
+lawful-count : (m : Memory) (e : Steps) → Lawful m e → length (values e) ≤ limit cells
 lawful-count m [] t = omega arith
 lawful-count m (begin l b ∷ e) t =
     let c = count-small m e (l .name) b (allowed m e l b (t .1) .room) in
@@ -57,7 +57,7 @@ start-reads flag more f l small =
     (then _ (refuse-passes _ _ _ _ _ refl)
     (then _ (refuse-passes _ _ _ _ _ f) (then _ (refuse-passes _ _ _ _ _ (le-ltb largest-file _ small)) (then _ refl refl))))
 
-records-reads : (c : InDraft) (n : ℕ) (bytes : List ℕ) (e : Steps) → length bytes ≡ c .payload → each (value (in-draft c) 32) (replicate n []) (rd bytes []) ≡ got tt (rd [] e)
+records-reads : (c : InDraft) (n : ℕ) (bytes : List ℕ) (e : Steps) → length bytes ≡ c .payload → each (value (in-draft c) deepest) (replicate n []) (rd bytes []) ≡ got tt (rd [] e)
     → records (in-draft c) n (rd bytes []) ≡ got tt (rd [] e)
 unfolding records
 records-reads c n bytes e s inside =
@@ -85,10 +85,10 @@ canonical-reads-back m e lawful closed small =
     let b : R ≡ bytes all w = whole-payload all w in
     let k : inner-names all Root ≡ names w = roots w in
     let o : names w ≡ replicate (length (names w)) [] = names-outside m w lawful refl in
-    let V = value (in-draft (reading size m all (length R))) 32 in
+    let V = value (in-draft (reading size m all (length R))) deepest in
     let q : names w ≡ replicate n [] = o ∙ ap (λ (x : List Name). replicate (length x) []) (sym k) in
     let c : bytes all w ++ [] ≡ R = append-nil (bytes all w) ∙ sym b in
-    let r : each V (names w) (rd (bytes all w ++ []) []) ≡ got tt (rd [] e) = reads-whole size m (length R) all few (omega arith) w p 32 refl [] (omega arith) in
+    let r : each V (names w) (rd (bytes all w ++ []) []) ≡ got tt (rd [] e) = reads-whole size m (length R) all few (omega arith) w p deepest refl [] (omega arith) in
     let inside : each V (replicate n []) (rd R []) ≡ got tt (rd [] e) = ap (λ (x : List Name). each V x (rd R [])) (sym q) ∙ ap (λ (x : List ℕ). each V (names w) (rd x [])) (sym c) ∙ r in
     ap answer
     (then _ (start-reads (flags-for ns) (W ++ (T ++ R)) (flags-fine ns) (omega arith) small)

@@ -14,9 +14,10 @@ use Rattle.steps.specs.Outline.{Entry, values, suits, follow}
 use Rattle.steps.specs.Steps.{Steps, Step, Tag, Content, begin, put}
 use Rattle.steps.specs.declared.parts.Family.{Family}
 use Rattle.steps.specs.declared.parts.Node.{Node}
+use Rattle.redbin.specs.Layout.{padding-type}
 use Rattle.redbin.proofs.Drafted.{InDraft, in-draft}
 use Rattle.redbin.proofs.Fields.{Below}
-use Rattle.redbin.specs.Bytes.{number}
+use Rattle.redbin.specs.Bytes.{bit, number}
 use Rattle.redbin.specs.Reading.{because, in-memory, suiting, Heading, Reader, Read, Reads, got, refused, after, here, push, refuse-when, enough, below, series, run, Announced, form, wrong-type, wrong-bits, heading-by, heading-of, behind-padding, heading, room, target, on-boundary, add}
 use Rattle.refusal.specs.declared.Part.the-variants.{Reference}
 use Rattle.refusal.specs.declared.Part.{Part}
@@ -128,7 +129,7 @@ unfolding heading
 heading-got c r h s e =
     let a = came _ _ h s e in
     let b = came _ _ h s (a .next) in
-    go (eqb (b .value % 256) 0) (a .value) (b .value) (b .at) (b .next)
+    go (eqb (b .value % bit 8) padding-type) (a .value) (b .value) (b .at) (b .next)
     ∙ below-got _ _ _ _ _ (a .at) (b .value) (b .at) (b .was) .1
     ∙ here-got _ r (a .value) (a .at) (a .was)
   where

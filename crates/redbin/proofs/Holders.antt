@@ -19,9 +19,9 @@ use Rattle.redbin.proofs.Fields.{rd, then, refuse-passes, field-reads, field-l
 use Rattle.redbin.proofs.Headings.{heading-reads}
 use Rattle.redbin.proofs.Puts.{room-reads, below-more}
 use Rattle.redbin.proofs.Symbols.{Among, named-by-indexes, indexes-below}
-use Rattle.redbin.specs.Bytes.{words}
+use Rattle.redbin.specs.Bytes.{bit, words}
 use Rattle.redbin.specs.Canonical.{index-of, symbols, record-of}
-use Rattle.redbin.specs.Layout.{context-header}
+use Rattle.redbin.specs.Layout.{context-type, context-header}
 use Rattle.redbin.specs.Reading.{bare, in-memory, Reads, got, here, push, run, each, hold, add-list, add-context, add-object, content, value}
 use Rattle.redbin.specs.declared.form.Form.the-variants.{List as is-list, Object as is-object}
 use Rattle.refusal.specs.declared.Part.the-variants.{Record}
@@ -46,15 +46,15 @@ list-reads c d all place l k h bytes more e e′ ok r s inside =
     (then _ (room-reads c _ (bare (l .name)) bytes e r)
     (hold-reads (c .memory) _ l (OfList k h) _ bytes more e e′ inside))))
 
-context-type : (s : Bool) → not (eqb (context-header s % 256) 14) ≡ false
-context-type true = refl
-context-type false = refl
+context-typed : (s : Bool) → not (eqb (context-header s % bit 8) context-type) ≡ false
+context-typed true = refl
+context-typed false = refl
 
-context-bits : (s : Bool) → not (eqb (context-header s) 134217742 || eqb (context-header s) 402653198) ≡ false
+context-bits : (s : Bool) → not (eqb (context-header s) (context-header false) || eqb (context-header s) (context-header true)) ≡ false
 context-bits true = refl
 context-bits false = refl
 
-context-self : (s : Bool) → eqb (context-header s) 402653198 ≡ s
+context-self : (s : Bool) → eqb (context-header s) (context-header true) ≡ s
 context-self true = refl
 context-self false = refl
 
@@ -92,7 +92,7 @@ object-reads size m pay d all place l w s k t a bytes more e e′ ok r small few
     (then _ (room-reads c _ (bare (l .name)) _ e r)
     (then _ refl
     (then _ (field-reads size Record 4 word-end Large (context-header s) (n ∷ is) bytes e (context-small s) (context-small s))
-    (then _ (refuse-passes _ _ _ _ _ (context-type s))
+    (then _ (refuse-passes _ _ _ _ _ (context-typed s))
     (then _ (refuse-passes _ _ _ _ _ (context-bits s))
     (then _ (field-reads size Record 4 field-end Large n is bytes e (omega arith) small)
     (then _ run-is

@@ -9,7 +9,7 @@ use lib.IntN.{pos, negsuc}
 use lib.ListN.{length, getD, replicate}
 use Rattle.std.proofs.shelf.Tests.{ltb-false, lt-ltb, and-from}
 use Rattle.std.specs.declared.option.Option.the-variants.{None}
-use Rattle.steps.specs.Law.{integer-end, field-end, word-end, codepoint-end, codepoints-ok, need, Memory, Lawful, refusal, name-ok, begun-ok, content-ok, holder-ok, share-ok, has-room}
+use Rattle.steps.specs.Law.{deepest, integer-end, field-end, word-end, codepoint-end, codepoints-ok, need, Memory, Lawful, refusal, name-ok, begun-ok, content-ok, holder-ok, share-ok, has-room}
 use Rattle.steps.specs.Outline.{Opened, values, opened, in-object, suits, share-family}
 use Rattle.steps.specs.Steps.{Steps, Name, Tag, Content, Begun, none, logic, char, integer, float, text, begin, close, put, open′, share}
 use Rattle.steps.specs.Utf8.{lawful-name}
@@ -37,12 +37,12 @@ Kept m e f = Lawful m f × (opened f ≡ opened e)
 pub record Ready (m : Memory) (e : Steps) (l : Tag) : Type 0 where
   pub lawful : Lawful m e
   pub name : name-ok (opened e) (l .name) ≡ true
-  pub depth : length (opened e) < 32
+  pub depth : length (opened e) < deepest
 
 lawful-begin : (m : Memory) (e : Steps) (l : Tag) (b : Begun) → Ready m e l → begun-ok (values e) b ≡ true → has-room m e (need (l .name) b) ≡ true → Lawful m (begin l b ∷ e)
 lawful-begin m e l b y v r =
     let n = y .name in
-    let d : ltb (length (opened e)) 32 ≡ true = lt-ltb _ _ (y .depth) in
+    let d : ltb (length (opened e)) deepest ≡ true = lt-ltb _ _ (y .depth) in
     (y .lawful, rw (n, v, d, r))
 
 put-kept : (m : Memory) (e e′ f : Steps) (l : Tag) (v : Content) → Ready m e l → content-ok v ≡ true → e′ ≡ e → has-room m e′ (need (l .name) (put v)) ≡ true → f ≡ begin l (put v) ∷ e′ → Kept m e f
@@ -131,11 +131,11 @@ All-ok os (n ∷ ns) = (name-ok os n ≡ true) × All-ok os ns
 -- a reader of one value that keeps the steps lawful
 abbrev pub Keeps : Memory → ℕ → (Name → Reads (Unit {0})) → Type 0
 Keeps m d one =
-    (n : Name) (r : Reader) (u : Unit {0}) (s : Reader) → one n r ≡ got u s → Lawful m (r .steps) → d + length (opened (r .steps)) ≡ 32 → name-ok (opened (r .steps)) n ≡ true
+    (n : Name) (r : Reader) (u : Unit {0}) (s : Reader) → one n r ≡ got u s → Lawful m (r .steps) → d + length (opened (r .steps)) ≡ deepest → name-ok (opened (r .steps)) n ≡ true
     → Kept m (r .steps) (s .steps)
 
 pub each-kept : (m : Memory) (d : ℕ) (one : Name → Reads (Unit {0})) → Keeps m d one → (ns : List Name) (r : Reader) (u : Unit {0}) (s : Reader) → each one ns r ≡ got u s
-    → Lawful m (r .steps) → d + length (opened (r .steps)) ≡ 32 → All-ok (opened (r .steps)) ns → Kept m (r .steps) (s .steps)
+    → Lawful m (r .steps) → d + length (opened (r .steps)) ≡ deepest → All-ok (opened (r .steps)) ns → Kept m (r .steps) (s .steps)
 unfolding each
 each-kept m d one k [] r u s h t q o =
     let p : s ≡ r = cc in
@@ -143,14 +143,14 @@ each-kept m d one k [] r u s h t q o =
 each-kept m d one k (n ∷ ns) r u s h t q o =
     let a = came _ _ u s h in
     let p = k n r (a .value) (a .at) (a .was) t q (o .0) in
-    let q′ : d + length (opened (a .at .steps)) ≡ 32 = rw (p .1) q in
+    let q′ : d + length (opened (a .at .steps)) ≡ deepest = rw (p .1) q in
     let o′ : All-ok (opened (a .at .steps)) ns = rw (p .1) (o .1) in
     let z = each-kept m d one k ns (a .at) u s (a .next) (p .0) q′ o′ in
     (z .0, z .1 ∙ p .1)
 
 -- an opened value with whole values in it, and its close
 hold-kept : (m : Memory) (d : ℕ) (one : Name → Reads (Unit {0})) (l : Tag) (h : Holder) (ns : List Name) (e : Steps) (r : Reader) (u : Unit {0}) (s : Reader) → Keeps m d one
-    → Ready m e l → suc d + length (opened e) ≡ 32 → holder-ok h ≡ true → has-room m e (bare (l .name)) ≡ true → All-ok (opened (begin l (open′ h) ∷ e)) ns → r .steps ≡ e
+    → Ready m e l → suc d + length (opened e) ≡ deepest → holder-ok h ≡ true → has-room m e (bare (l .name)) ≡ true → All-ok (opened (begin l (open′ h) ∷ e)) ns → r .steps ≡ e
     → hold (in-memory m) one l h ns r ≡ got u s → Kept m e (s .steps)
 unfolding hold
 hold-kept m d one l h ns e r u s keeps y q ok room names same p =
@@ -180,7 +180,7 @@ named-ok os table [] h t b = tt
 named-ok os table (i ∷ is) h t b = (rw h (lawful-getD table i t (b .0)), named-ok os table is h t (b .1))
 
 list-kept : (c : InDraft) (d : ℕ) (one : Name → Reads (Unit {0})) (start : ℕ) (l : Tag) (k : ListKind) (r : Reader) (u : Unit {0}) (s : Reader) → Keeps (c .memory) d one
-    → Ready (c .memory) (r .steps) l → suc d + length (opened (r .steps)) ≡ 32 → add-list (in-draft c) one start l k r ≡ got u s → Kept (c .memory) (r .steps) (s .steps)
+    → Ready (c .memory) (r .steps) l → suc d + length (opened (r .steps)) ≡ deepest → add-list (in-draft c) one start l k r ≡ got u s → Kept (c .memory) (r .steps) (s .steps)
 unfolding add-list
 list-kept c d one start l k r u s keeps y q h =
     let a₁ = came _ _ u s h in
@@ -195,7 +195,7 @@ list-kept c d one start l k r u s keeps y q h =
     (empty-ok (opened (begin l (open′ (OfList k (a₁ .value))) ∷ r .steps)) (a₂ .value) refl) (p₃ .1 ∙ q₂) (a₃ .next)
 
 context-kept : (c : InDraft) (d : ℕ) (one : Name → Reads (Unit {0})) (l : Tag) (w : Bool) (k t a : ℕ) (e : Steps) (r : Reader) (u : Unit {0}) (s : Reader) → Keeps (c .memory) d one
-    → All-lawful (c .table) → Ready (c .memory) e l → suc d + length (opened e) ≡ 32 → ((b : Bool) → holder-ok (OfObject w b k t a) ≡ true) → has-room (c .memory) e (bare (l .name)) ≡ true → r .steps ≡ e
+    → All-lawful (c .table) → Ready (c .memory) e l → suc d + length (opened e) ≡ deepest → ((b : Bool) → holder-ok (OfObject w b k t a) ≡ true) → has-room (c .memory) e (bare (l .name)) ≡ true → r .steps ≡ e
     → add-context (in-draft c) one l w k t a r ≡ got u s → Kept (c .memory) e (s .steps)
 unfolding add-context
 context-kept c d one l w k t a e r u s keeps table y q ok room same h =
@@ -217,7 +217,7 @@ context-kept c d one l w k t a e r u s keeps table y q ok room same h =
     (p₆ .2 ∙ p₅ ∙ p₄ ∙ p₃ ∙ p₂ ∙ p₁ ∙ same) (a₆ .next)
 
 object-kept : (c : InDraft) (d : ℕ) (one : Name → Reads (Unit {0})) (start : ℕ) (l : Tag) (w : Bool) (r : Reader) (u : Unit {0}) (s : Reader) → Keeps (c .memory) d one
-    → All-lawful (c .table) → Ready (c .memory) (r .steps) l → suc d + length (opened (r .steps)) ≡ 32 → add-object (in-draft c) one start l w r ≡ got u s → Kept (c .memory) (r .steps) (s .steps)
+    → All-lawful (c .table) → Ready (c .memory) (r .steps) l → suc d + length (opened (r .steps)) ≡ deepest → add-object (in-draft c) one start l w r ≡ got u s → Kept (c .memory) (r .steps) (s .steps)
 unfolding add-object
 object-kept c d one start l w r u s keeps table y q h =
     let a₁ = came _ _ u s h in
@@ -234,7 +234,7 @@ object-kept c d one start l w r u s keeps table y q h =
     (λ b. and-from _ _ (lt-ltb _ _ (p₁ .0)) (and-from _ _ (lt-ltb _ _ (p₂ .0)) (lt-ltb _ _ (p₃ .0)))) room (p₄ .1 ∙ q₃) (a₄ .next)
 
 content-kept : (c : InDraft) (d : ℕ) (one : Name → Reads (Unit {0})) (start : ℕ) (l : Tag) (x : Form) (r : Reader) (u : Unit {0}) (s : Reader) → Keeps (c .memory) d one
-    → All-lawful (c .table) → Ready (c .memory) (r .steps) l → suc d + length (opened (r .steps)) ≡ 32 → content (in-draft c) one start l x r ≡ got u s → Kept (c .memory) (r .steps) (s .steps)
+    → All-lawful (c .table) → Ready (c .memory) (r .steps) l → suc d + length (opened (r .steps)) ≡ deepest → content (in-draft c) one start l x r ≡ got u s → Kept (c .memory) (r .steps) (s .steps)
 unfolding content
 content-kept c d one start l is-none r u s keeps table y q h =
     let g = add-got c start l none r u s h in

@@ -8,7 +8,7 @@ use lib.Dec.{eqb}
 use lib.ListN.{length, getD, drop, replicate}
 use Rattle.std.specs.declared.option.Option.{Option}
 use Rattle.std.specs.declared.option.Option.the-variants.{Some, None}
-use Rattle.steps.specs.Law.{Memory, Lawful, Closed}
+use Rattle.steps.specs.Law.{deepest, Memory, Lawful, Closed}
 use Rattle.steps.specs.Outline.{opened}
 use Rattle.steps.specs.Steps.{Steps, Name}
 use Rattle.steps.specs.Utf8.{lawful-name}
@@ -106,7 +106,7 @@ records-got c n r u s table empty h =
     let p₃ = refuse-got _ _ _ _ (a₂ .at) (a₃ .value) (a₃ .at) (a₃ .was) .1 in
     let a₄ = came _ _ u s (a₃ .next) in
     let e : a₃ .at .steps ≡ [] = p₃ ∙ p₂ ∙ p₁ ∙ empty in
-    let k = each-kept (c .memory) 32 (value (in-draft c) 32) (value-kept c table 32) (replicate n []) (a₃ .at) (a₄ .value) (a₄ .at) (a₄ .was) (rw e tt) (rw e refl) (empty-ok (opened (a₃ .at .steps)) n (rw e)) in
+    let k = each-kept (c .memory) deepest (value (in-draft c) deepest) (value-kept c table deepest) (replicate n []) (a₃ .at) (a₄ .value) (a₄ .at) (a₄ .was) (rw e tt) (rw e refl) (empty-ok (opened (a₃ .at .steps)) n (rw e)) in
     let a₅ = came _ _ u s (a₄ .next) in
     let p₅ : a₅ .at .steps ≡ a₄ .at .steps = ap (λ (y : Reader). y .steps) (same-reader _ (a₅ .value) (a₄ .at) (a₅ .at) (a₅ .was)) in
     let p₆ = refuse-got _ _ _ _ (a₅ .at) u s (a₅ .next) .1 in

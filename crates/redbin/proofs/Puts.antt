@@ -18,7 +18,7 @@ use Rattle.redbin.proofs.Fields.{rd, then, field-reads, field-last, below-read
 use Rattle.redbin.proofs.Headings.{heading-reads, heading-last, padded-reads}
 use Rattle.redbin.specs.Bytes.{bytes-of, fields, words, zeros, fill, all-below}
 use Rattle.redbin.specs.Canonical.{unit, bits32, padding, record-of}
-use Rattle.redbin.specs.Layout.{text-length-end, header}
+use Rattle.redbin.specs.Layout.{one-byte-end, two-bytes-end, text-length-end, header}
 use Rattle.redbin.specs.Reading.{got, push, run, room, on-boundary, add, add-text, content, value, add-float, signed, is-nonzero}
 use Rattle.redbin.specs.declared.form.Form.the-variants.{Logic as is-logic, Integer as is-integer, Char as is-char, Nothing as is-none, Text as is-text, Float as is-float}
 use Rattle.refusal.specs.declared.Part.the-variants.{Record}
@@ -67,14 +67,14 @@ zeros-read size part why n more e =
 -- the unit that the canonical form takes fits the codepoints
 pub unit-fits : (ps : List ℕ) → Below codepoint-end ps → ((unit ps ≡ 1) ⊎ ((unit ps ≡ 2) ⊎ (unit ps ≡ 4))) × Below (256 ^ unit ps) ps
 unfolding unit
-unit-fits ps h = go (all-below 256 ps) (all-below 65536 ps) refl refl
+unit-fits ps h = go (all-below one-byte-end ps) (all-below two-bytes-end ps) refl refl
   where
     Good : ℕ → Type 0
     Good u = ((u ≡ 1) ⊎ ((u ≡ 2) ⊎ (u ≡ 4))) × Below (256 ^ u) ps
 
-    go : (a b : Bool) → all-below 256 ps ≡ a → all-below 65536 ps ≡ b → Good (cond a 1 (cond b 2 4))
-    go true b p q = (inl refl, below-all 256 ps p)
-    go false true p q = (inr (inl refl), below-all 65536 ps q)
+    go : (a b : Bool) → all-below one-byte-end ps ≡ a → all-below two-bytes-end ps ≡ b → Good (cond a 1 (cond b 2 4))
+    go true b p q = (inl refl, below-all one-byte-end ps p)
+    go false true p q = (inr (inl refl), below-all two-bytes-end ps q)
     go false false p q = (inr (inr refl), below-more codepoint-end (256 ^ 4) ps (lit≤ tt) h)
 
 pub every-all : (f : Kind → Bool) → every-kind f ≡ true → (k : Kind) → f k ≡ true

@@ -7,7 +7,7 @@ use native.Mathlib.Omega.{arith}
 use lib.Dec.{eqb}
 use lib.ListN.{length, length-append, length-replicate}
 use Rattle.std.proofs.shelf.Tests.{and-parts}
-use Rattle.steps.specs.Law.{word-end, Memory, share-ok}
+use Rattle.steps.specs.Law.{limit, cells, deepest, word-end, Memory, share-ok}
 use Rattle.steps.specs.Outline.{Entry, values, opened, same-holder, inner-names, suits, share-family}
 use Rattle.steps.specs.Steps.{Steps, Name, Tag, Content, Begun, none, logic, char, integer, float, text, begin, close, put, open′, share}
 use Rattle.steps.specs.declared.parts.Holder.the-variants.{Object as OfObject, List as OfList}
@@ -92,23 +92,23 @@ inner-names-length (x ∷ xs) h =
     last true = omega arith
     last false = omega arith
 
-module _ (size : ℕ) (m : Memory) (pay : ℕ) (all : List Entry) (few : length all ≤ 16384) (few-names : length (symbols all) ≤ word-end) where
-  put-step : (d : ℕ) (l : Tag) (v : Content) (e : Steps) (more : List ℕ) → Allowed m e l (put v) → d + length (opened e) ≡ 32
+module _ (size : ℕ) (m : Memory) (pay : ℕ) (all : List Entry) (few : length all ≤ limit cells) (few-names : length (symbols all) ≤ word-end) where
+  put-step : (d : ℕ) (l : Tag) (v : Content) (e : Steps) (more : List ℕ) → Allowed m e l (put v) → d + length (opened e) ≡ deepest
       → length (payload all e) + length (record-of all (values e) (length (payload all e)) l (put v) ++ more) ≡ pay
       → value (in-draft (reading size m all pay)) d (l .name) (rd (record-of all (values e) (length (payload all e)) l (put v) ++ more) e) ≡ got tt (rd more (begin l (put v) ∷ e))
   put-step zero l v e more a s q = absurd (omega (arith, a .depth))
   put-step (suc d) l v e more a s q =
       put-reads (reading size m all pay) d all (values e) (length (payload all e)) l v more e (a .begun) (a .room) (payload-aligned all e) q
 
-  share-step : (d : ℕ) (l : Tag) (h : Share) (t : Node) (e : Steps) (more : List ℕ) → Allowed m e l (share h t) → d + length (opened e) ≡ 32
+  share-step : (d : ℕ) (l : Tag) (h : Share) (t : Node) (e : Steps) (more : List ℕ) → Allowed m e l (share h t) → d + length (opened e) ≡ deepest
       → value (in-draft (reading size m all pay)) d (l .name) (rd (record-of all (values e) (length (payload all e)) l (share h t) ++ more) e) ≡ got tt (rd more (begin l (share h t) ∷ e))
   share-step zero l h t e more a s = absurd (omega (arith, a .depth))
   share-step (suc d) l h t e more a s =
       let p = and-parts (share-ok h) (suits (values e) t (share-family h)) (a .begun) in
       share-reads (reading size m all pay) d all (length (payload all e)) l h t more e (p .0) (p .1) (a .room)
 
-  holder-step : (d : ℕ) (l : Tag) (h : Holder) {e e′ : Steps} (v : Whole (begin l (open′ h) ∷ e) e′) (more : List ℕ) → Part-of m all (close ∷ e′) → d + length (opened e) ≡ 32
-      → ((d : ℕ) → d + length (opened (begin l (open′ h) ∷ e)) ≡ 32
+  holder-step : (d : ℕ) (l : Tag) (h : Holder) {e e′ : Steps} (v : Whole (begin l (open′ h) ∷ e) e′) (more : List ℕ) → Part-of m all (close ∷ e′) → d + length (opened e) ≡ deepest
+      → ((d : ℕ) → d + length (opened (begin l (open′ h) ∷ e)) ≡ deepest
       → each (value (in-draft (reading size m all pay)) d) (names v) (rd (bytes all v ++ more) (begin l (open′ h) ∷ e)) ≡ got tt (rd more e′))
       → value (in-draft (reading size m all pay)) d (l .name) (rd (record-of all (values e) (length (payload all e)) l (open′ h) ++ (bytes all v ++ more)) e) ≡ got tt (rd more (close ∷ e′))
   holder-step zero l h {e} v more p s ih =
@@ -128,21 +128,21 @@ module _ (size : ℕ) (m : Memory) (pay : ℕ) (all : List Entry) (few : length 
       object-reads size m pay d all (length (payload all e)) l w t k u b (bytes all v ++ more) more e e′ (a .begun) (a .room)
       (omega (arith, inner-names-length all (At (length (values e))))) few-names (object-among all _ (values e) (o .within)) (rw n (ih d (omega arith)))
 
-  pub reads-whole : {s e : Steps} (w : Whole s e) → Part-of m all e → (d : ℕ) → d + length (opened s) ≡ 32 → (more : List ℕ) → length (payload all e) + length more ≡ pay
+  pub reads-whole : {s e : Steps} (w : Whole s e) → Part-of m all e → (d : ℕ) → d + length (opened s) ≡ deepest → (more : List ℕ) → length (payload all e) + length more ≡ pay
       → each (value (in-draft (reading size m all pay)) d) (names w) (rd (bytes all w ++ more) s) ≡ got tt (rd more e)
   unfolding each
   reads-whole nothing p d s more q = refl
   reads-whole {s = z} (a-put {e = e} l v w) p d s more q =
       let R = record-of all (values e) (length (payload all e)) l (put v) in
       let q′ : length (payload all e) + length (R ++ more) ≡ pay = omega (arith, length-append (payload all e) R, length-append R more) in
-      let s′ : d + length (opened e) ≡ 32 = rw (whole-opened w) s in
+      let s′ : d + length (opened e) ≡ deepest = rw (whole-opened w) s in
       rw (append-assoc (bytes all w) R more)
       (each-more _ (names w) (l .name) _ _ _ (reads-whole w (part-tail m all _ _ p) d s (R ++ more) q′)
       (put-step d l v e more (allowed m e l (put v) (p .lawful .1)) s′ q′))
   reads-whole {s = z} (a-share {e = e} l h t w) p d s more q =
       let R = record-of all (values e) (length (payload all e)) l (share h t) in
       let q′ : length (payload all e) + length (R ++ more) ≡ pay = omega (arith, length-append (payload all e) R, length-append R more) in
-      let s′ : d + length (opened e) ≡ 32 = rw (whole-opened w) s in
+      let s′ : d + length (opened e) ≡ deepest = rw (whole-opened w) s in
       rw (append-assoc (bytes all w) R more)
       (each-more _ (names w) (l .name) _ _ _ (reads-whole w (part-tail m all _ _ p) d s (R ++ more) q′)
       (share-step d l h t e more (allowed m e l (share h t) (p .lawful .1)) s′))
@@ -152,7 +152,7 @@ module _ (size : ℕ) (m : Memory) (pay : ℕ) (all : List Entry) (few : length 
       let y = ap length (whole-payload all v) in
       let q′ : length (payload all e) + length (R ++ (B ++ more)) ≡ pay =
       omega (arith, y, length-append (payload all e ++ R) B, length-append (payload all e) R, length-append R (B ++ more), length-append B more) in
-      let s′ : d + length (opened e) ≡ 32 = rw (whole-opened w) s in
+      let s′ : d + length (opened e) ≡ deepest = rw (whole-opened w) s in
       let p₁ = part-tail m all close e′ p in
       let p₂ = part-tail m all _ _ (part-start m all v p₁) in
       rw (append-assoc (bytes all w) (R ++ B) more, append-assoc R B more)

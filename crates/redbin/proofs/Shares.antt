@@ -7,13 +7,14 @@ use native.Mathlib.Omega.{arith}
 use lib.Dec.{lit<}
 use lib.ListN.{length}
 use Rattle.std.proofs.shelf.Tests.{ltb-true}
-use Rattle.steps.specs.Law.{field-end, word-end, cells, need, Memory, has-room, share-ok, used}
+use Rattle.steps.specs.Law.{limit, field-end, word-end, cells, need, Memory, has-room, share-ok, used}
 use Rattle.steps.specs.Outline.{Entry, values, suits, share-family, path-to}
 use Rattle.steps.specs.Steps.{Begun, none, logic, char, integer, float, text, Steps, Tag, Name, begin, close, put, open′, share}
 use Rattle.steps.specs.declared.parts.Family.{Family}
 use Rattle.steps.specs.declared.parts.Node.{Node}
 use Rattle.steps.specs.declared.parts.Share.the-variants.{Text as ShareText, List as ShareList, Object as ShareObject}
 use Rattle.steps.specs.declared.parts.Share.{Share}
+use Rattle.redbin.specs.Layout.{reference-header}
 use Rattle.redbin.proofs.Drafted.{InDraft, in-draft}
 use Rattle.redbin.proofs.Fields.{rd, then, field-reads, run-reads}
 use Rattle.redbin.proofs.Headings.{heading-reads}
@@ -41,7 +42,7 @@ count-used [] = refl
 count-used (begin l b ∷ e) = omega (arith, count-used e, one-cell (l .name) b)
 count-used (close ∷ e) = count-used e
 
-pub count-small : (m : Memory) (e : Steps) (n : Name) (b : Begun) → has-room m e (need n b) ≡ true → length (values e) < 16384
+pub count-small : (m : Memory) (e : Steps) (n : Name) (b : Begun) → has-room m e (need n b) ≡ true → length (values e) < limit cells
 count-small m e n b h = omega (arith, count-used e, one-cell n b, room-parts m e (need n b) h cells)
 
 target-reads : (c : InDraft) (place : ℕ) (f : Family) (t : Node) (bytes : List ℕ) (e : Steps) → suits (values e) t f ≡ true
@@ -59,7 +60,7 @@ add-share-reads c start l s t more e h r =
     let k = count-small (c .memory) e (l .name) (share s t) r in
     let n : length p < field-end = omega arith in
     then _ refl
-    (then _ (field-reads (c .size) Reference 4 word-end Large 255 (length p ∷ p) more e (lit< tt) (lit< tt))
+    (then _ (field-reads (c .size) Reference 4 word-end Large reference-header (length p ∷ p) more e (lit< tt) (lit< tt))
     (then _ refl (then _ refl
     (then _ (field-reads (c .size) Reference 4 field-end Large (length p) p more e (omega arith) n)
     (then _ (run-reads (c .size) Reference 4 field-end Large p more e (below-more _ (256 ^ 4) p (omega arith) (b .0)) (below-more _ field-end p (omega arith) (b .0)))

@@ -9,7 +9,7 @@ use lib.ListN.{length}
 use Rattle.std.proofs.shelf.Tests.{ne-eqb, eq-eqb, ltb-true}
 use Rattle.std.specs.declared.option.Option.{Option}
 use Rattle.std.specs.declared.option.Option.the-variants.{None}
-use Rattle.steps.specs.Law.{need, Memory, refusal, unless, name-ok, begun-ok, has-room}
+use Rattle.steps.specs.Law.{deepest, need, Memory, refusal, unless, name-ok, begun-ok, has-room}
 use Rattle.steps.specs.Outline.{Entry, values, opened, innermost, same-holder, inner-names}
 use Rattle.steps.specs.Steps.{Steps, Name, Tag, Content, Begun, begin, close, put, open′, share}
 use Rattle.steps.specs.declared.parts.Holder.{Holder}
@@ -25,7 +25,7 @@ use Rattle.refusal.specs.declared.Reason.{Reason}
 pub record Allowed (m : Memory) (e : Steps) (l : Tag) (b : Begun) : Type 0 where
   pub name : name-ok (opened e) (l .name) ≡ true
   pub begun : begun-ok (values e) b ≡ true
-  pub depth : length (opened e) < 32
+  pub depth : length (opened e) < deepest
   pub room : has-room m e (need (l .name) b) ≡ true
 
 unless-passed : (b : Bool) (why : Reason) (next : Option Reason) → unless b why next ≡ None → (b ≡ true) × (next ≡ None)
@@ -36,9 +36,9 @@ pub allowed : (m : Memory) (e : Steps) (l : Tag) (b : Begun) → refusal m e (be
 allowed m e l b h =
     let p = unless-passed (name-ok (opened e) (l .name)) BadName _ h in
     let q = unless-passed (begun-ok (values e) b) NotAllowed _ (p .1) in
-    let r = unless-passed (ltb (length (opened e)) 32) TooDeep _ (q .1) in
+    let r = unless-passed (ltb (length (opened e)) deepest) TooDeep _ (q .1) in
     let s = unless-passed (has-room m e (need (l .name) b)) NoMemory None (r .1) in
-    record { name = p .0; begun = q .0; depth = ltb-true (length (opened e)) 32 (r .0); room = s .0 }
+    record { name = p .0; begun = q .0; depth = ltb-true (length (opened e)) deepest (r .0); room = s .0 }
 
 -- from the first steps to the second, whole values were begun, with all that they hold
 pub data Whole : Steps → Steps → Type 0 where
