@@ -139,144 +139,61 @@ in-two-file =
     file-with (table (0 ∷ 8 ∷ 24 ∷ []) (seven ++ (0 ∷ (eight ++ (0 ∷ (replicate 7 0 ++ (0x61 ∷ 0 ∷ replicate 6 0))))))) 1
     (words (0x20 ∷ 0 ∷ 0 ∷ 0 ∷ 0x0800000E ∷ 3 ∷ 0 ∷ 1 ∷ 2 ∷ 0x20 ∷ 0 ∷ 0 ∷ 0 ∷ 0x0800000E ∷ 2 ∷ 2 ∷ 0 ∷ 3 ∷ 3 ∷ 3 ∷ 3 ∷ []))
 
--- every sort of value
+-- every sort of value: the steps, the oldest first, each with the fields of its record, of four bytes each
+abbrev pub every-sort : List (Step × List ℕ)
+every-sort =
+    (marked (put none), 0x80000003 ∷ [])
+    ∷ (plain (put (logic true)), 0x04 ∷ 1 ∷ [])
+    ∷ (plain (put (logic false)), 0x04 ∷ 0 ∷ [])
+    ∷ (plain (put (char 0x10FFFF)), 0x0A ∷ 0x10FFFF ∷ [])
+    ∷ (plain (put (integer (pos 2147483647))), 0x0B ∷ 0x7FFFFFFF ∷ [])
+    ∷ (plain (put (integer (negsuc 2147483647))), 0x0B ∷ 0x80000000 ∷ [])
+    ∷ (plain (put (float 0x3FF0000000000000)), 0x0C ∷ 0 ∷ 0x3FF00000 ∷ [])
+    ∷ (plain (put (text String 1 (255 ∷ []))), 0x107 ∷ 1 ∷ 1 ∷ 0xFF ∷ [])
+    ∷ (plain (put (text File 0 (256 ∷ 65535 ∷ []))), 0x208 ∷ 0 ∷ 2 ∷ 0xFFFF0100 ∷ [])
+    ∷ (plain (put (text Url 0 (65536 ∷ []))), 0x409 ∷ 0 ∷ 1 ∷ 0x10000 ∷ [])
+    ∷ (marked (put (text String 0 [])), 0x80000107 ∷ 0 ∷ 0 ∷ [])
+    ∷ (plain (open′ (OfList Block 2)), 0x05 ∷ 2 ∷ 5 ∷ [])
+    ∷ (plain (open′ (OfList Paren 0)), 0x06 ∷ 0 ∷ 0 ∷ [])
+    ∷ (close, [])
+    ∷ (plain (open′ (OfList Path 0)), 0x19 ∷ 0 ∷ 0 ∷ [])
+    ∷ (close, [])
+    ∷ (plain (open′ (OfList LitPath 0)), 0x1A ∷ 0 ∷ 0 ∷ [])
+    ∷ (close, [])
+    ∷ (plain (open′ (OfList SetPath 0)), 0x1B ∷ 0 ∷ 0 ∷ [])
+    ∷ (close, [])
+    ∷ (plain (open′ (OfList GetPath 0)), 0x1C ∷ 0 ∷ 0 ∷ [])
+    ∷ (close, [])
+    ∷ (close, [])
+    ∷ (plain (open′ (OfObject true true 1 0xFFFFFFFF 2)), 0x01000020 ∷ 1 ∷ 0xFFFFFFFF ∷ 2 ∷ 0x1800000E ∷ 2 ∷ 0 ∷ 1 ∷ [])
+    ∷ (named (0x61 ∷ []) (put none), 0x03 ∷ [])
+    ∷ (named (0x62 ∷ []) object, 0x20 ∷ 0 ∷ 0 ∷ 0 ∷ 0x0800000E ∷ 1 ∷ 0 ∷ [])
+    ∷ (named (0x61 ∷ []) (put none), 0x03 ∷ [])
+    ∷ (close, [])
+    ∷ (close, [])
+    ∷ (plain (share (ShareList Path 3) (At 11)), 0x80019 ∷ 3 ∷ 0xFF ∷ 1 ∷ 11 ∷ [])
+    ∷ (plain (share (ShareText Url 4) (At 7)), 0x80109 ∷ 4 ∷ 0xFF ∷ 1 ∷ 7 ∷ [])
+    ∷ (plain (share (ShareObject true) (At 19)), 0x01080020 ∷ 0xFF ∷ 2 ∷ 12 ∷ 1 ∷ [])
+    ∷ (marked (share (ShareObject false) (At 17)), 0x80080020 ∷ 0xFF ∷ 1 ∷ 12 ∷ [])
+    ∷ (plain (share (ShareList Block 0) (At 13)), 0x80005 ∷ 0 ∷ 0xFF ∷ 2 ∷ 11 ∷ 1 ∷ [])
+    ∷ []
+
+abbrev pub first-parts : List (Step × List ℕ) → List Step
+first-parts [] = []
+first-parts (x ∷ xs) = x .0 ∷ first-parts xs
+
+abbrev pub second-parts : List (Step × List ℕ) → List ℕ
+second-parts [] = []
+second-parts (x ∷ xs) = x .1 ++ second-parts xs
+
 abbrev pub everything : Steps
-everything =
-    steps
-    (marked (put none)
-    ∷ plain (put (logic true))
-    ∷ plain (put (logic false))
-    ∷ plain (put (char 0x10FFFF))
-    ∷ plain (put (integer (pos 2147483647)))
-    ∷ plain (put (integer (negsuc 2147483647)))
-    ∷ plain (put (float 0x3FF0000000000000))
-    ∷ plain (put (text String 1 (255 ∷ [])))
-    ∷ plain (put (text File 0 (256 ∷ 65535 ∷ [])))
-    ∷ plain (put (text Url 0 (65536 ∷ [])))
-    ∷ marked (put (text String 0 []))
-    ∷ plain (open′ (OfList Block 2))
-    ∷ plain (open′ (OfList Paren 0))
-    ∷ close
-    ∷ plain (open′ (OfList Path 0))
-    ∷ close
-    ∷ plain (open′ (OfList LitPath 0))
-    ∷ close
-    ∷ plain (open′ (OfList SetPath 0))
-    ∷ close
-    ∷ plain (open′ (OfList GetPath 0))
-    ∷ close
-    ∷ close
-    ∷ plain (open′ (OfObject true true 1 0xFFFFFFFF 2))
-    ∷ named (0x61 ∷ []) (put none)
-    ∷ named (0x62 ∷ []) object
-    ∷ named (0x61 ∷ []) (put none)
-    ∷ close
-    ∷ close
-    ∷ plain (share (ShareList Path 3) (At 11))
-    ∷ plain (share (ShareText Url 4) (At 7))
-    ∷ plain (share (ShareObject true) (At 19))
-    ∷ marked (share (ShareObject false) (At 17))
-    ∷ plain (share (ShareList Block 0) (At 13))
-    ∷ [])
+everything = steps (first-parts every-sort)
 
 abbrev pub everything-file : List ℕ
 everything-file =
     redbin
-    ++ (2
-    ∷ 4
-    ∷ (words (18 ∷ 356 ∷ 2 ∷ 16 ∷ 0 ∷ 8 ∷ [])
-    ++ (0x61 ∷ 0 ∷ 0 ∷ 0 ∷ 0 ∷ 0 ∷ 0 ∷ 0 ∷ 0x62 ∷ 0 ∷ 0 ∷ 0 ∷ 0 ∷ 0 ∷ 0 ∷ 0
-    ∷ words
-    (0x80000003
-    ∷ 0x04
-    ∷ 1
-    ∷ 0x04
-    ∷ 0
-    ∷ 0x0A
-    ∷ 0x10FFFF
-    ∷ 0x0B
-    ∷ 0x7FFFFFFF
-    ∷ 0x0B
-    ∷ 0x80000000
-    ∷ 0x0C
-    ∷ 0
-    ∷ 0x3FF00000
-    ∷ 0x107
-    ∷ 1
-    ∷ 1
-    ∷ 0xFF
-    ∷ 0x208
-    ∷ 0
-    ∷ 2
-    ∷ 0xFFFF0100
-    ∷ 0x409
-    ∷ 0
-    ∷ 1
-    ∷ 0x10000
-    ∷ 0x80000107
-    ∷ 0
-    ∷ 0
-    ∷ 0x05
-    ∷ 2
-    ∷ 5
-    ∷ 0x06
-    ∷ 0
-    ∷ 0
-    ∷ 0x19
-    ∷ 0
-    ∷ 0
-    ∷ 0x1A
-    ∷ 0
-    ∷ 0
-    ∷ 0x1B
-    ∷ 0
-    ∷ 0
-    ∷ 0x1C
-    ∷ 0
-    ∷ 0
-    ∷ 0x01000020
-    ∷ 1
-    ∷ 0xFFFFFFFF
-    ∷ 2
-    ∷ 0x1800000E
-    ∷ 2
-    ∷ 0
-    ∷ 1
-    ∷ 0x03
-    ∷ 0x20
-    ∷ 0
-    ∷ 0
-    ∷ 0
-    ∷ 0x0800000E
-    ∷ 1
-    ∷ 0
-    ∷ 0x03
-    ∷ 0x80019
-    ∷ 3
-    ∷ 0xFF
-    ∷ 1
-    ∷ 11
-    ∷ 0x80109
-    ∷ 4
-    ∷ 0xFF
-    ∷ 1
-    ∷ 7
-    ∷ 0x01080020
-    ∷ 0xFF
-    ∷ 2
-    ∷ 12
-    ∷ 1
-    ∷ 0x80080020
-    ∷ 0xFF
-    ∷ 1
-    ∷ 12
-    ∷ 0x80005
-    ∷ 0
-    ∷ 0xFF
-    ∷ 2
-    ∷ 11
-    ∷ 1
-    ∷ []))))
+    ++ (2 ∷ 4 ∷ (words (18 ∷ 356 ∷ 2 ∷ 16 ∷ 0 ∷ 8 ∷ [])
+    ++ (0x61 ∷ 0 ∷ 0 ∷ 0 ∷ 0 ∷ 0 ∷ 0 ∷ 0 ∷ 0x62 ∷ 0 ∷ 0 ∷ 0 ∷ 0 ∷ 0 ∷ 0 ∷ 0 ∷ words (second-parts every-sort))))
 
 -- so many blocks, each but the last holding the next
 abbrev pub nest : ℕ → List ℕ
