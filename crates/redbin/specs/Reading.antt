@@ -1,5 +1,7 @@
 -- What a file means: the steps that reading makes of it; or for which reason, in which part and at which byte it is refused.
--- The checks stand in the order in which they are made: from the file's first byte to its last, and for each field first whether it fits (4), then whether it is too large (5), then its content (10 or 12).
+-- Reading goes from the file's first byte to its last and refuses at the first check that fails. For each field: does it fit its file or payload (4), is it too large (5), is its content bad (10 or 12). For each record: its header's 4, its type (8), its other bits (9), its depth (13), its fields, where its path leads (11), whether there is memory for it (14).
+-- The place of a refusal is the first byte of the field; for 7 that of the offset, for 8, 9, 11, 13 and 14 that of the header, for 1 and a file that is too long 0.
+-- Its part is the header (the first 16 bytes), the symbols, the reference inside one, else the record; the draft for 15.
 use mathlib.Core.Bool.{Bool, true, false, cond, not, _||_}
 use mathlib.Core.List.{List, [], _∷_}
 use Prim.Native.Nat.{ℕ, zero, suc, _+_, _-_, _*_, _/_, _%_}
