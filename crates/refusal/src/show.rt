@@ -5,6 +5,10 @@ use std::fmt;
 pub impl fmt::Display for Part as PartDisplay {
     fn fmt<W: fmt::Write>(&self, f: &mut fmt::Formatter<W>) -> fmt::Result {
         match *self {
+            Part::Header => write!(f, "header"),
+            Part::Symbols => write!(f, "symbols"),
+            Part::Record => write!(f, "record"),
+            Part::Reference => write!(f, "reference"),
             Part::Draft => write!(f, "draft"),
         }
     }

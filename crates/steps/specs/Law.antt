@@ -28,6 +28,17 @@ codepoint-end = 1114112
 abbrev pub field-end : ℕ
 field-end = 2147483648
 
+-- integers run from -2,147,483,648 to one less than this
+abbrev pub integer-end : ℕ
+integer-end = 2147483648
+
+-- an on-set is 32 bits, a float 64: they stop here
+abbrev pub word-end : ℕ
+word-end = 4294967296
+
+abbrev pub float-end : ℕ
+float-end = 18446744073709551616
+
 -- the depth of the deepest value
 abbrev pub deepest : ℕ
 deepest = 32
@@ -63,14 +74,14 @@ abbrev pub content-ok : Content → Bool
 content-ok none = true
 content-ok (logic b) = true
 content-ok (char n) = ltb n codepoint-end
-content-ok (integer (pos n)) = ltb n 2147483648
-content-ok (integer (negsuc n)) = ltb n 2147483648
-content-ok (float n) = ltb n 18446744073709551616
+content-ok (integer (pos n)) = ltb n integer-end
+content-ok (integer (negsuc n)) = ltb n integer-end
+content-ok (float n) = ltb n float-end
 content-ok (text k h ps) = ltb h field-end && codepoints-ok ps
 
 abbrev pub holder-ok : Holder → Bool
 holder-ok (OfList k h) = ltb h field-end
-holder-ok (OfObject w s c t a) = ltb c field-end && (ltb t 4294967296 && ltb a field-end)
+holder-ok (OfObject w s c t a) = ltb c field-end && (ltb t word-end && ltb a field-end)
 
 abbrev pub share-ok : Share → Bool
 share-ok (ShareList k h) = ltb h field-end
