@@ -15,7 +15,7 @@ pub mod Got
 pub mod Kept
 pub mod Loaded
 pub mod Elsewhere
-pub mod Meant
 pub mod Loops
+pub mod Meant
 mod Long
 pub mod Examples
