@@ -17,5 +17,6 @@ pub mod Loaded
 pub mod Elsewhere
 pub mod Loops
 pub mod Meant
+pub mod Roomy
 mod Long
 pub mod Examples

@@ -40,6 +40,10 @@ abbrev pub Memory-decides-room-alone : Type 0
 Memory-decides-room-alone =
     (m : Memory) (file : List ℕ) → (load m [] file ≡ read unlimited file) ⊎ ((place : ℕ) × (load m [] file ≡ Err (because NoMemory Record place)))
 
+-- and a file that reading without a limit accepts is accepted wherever its steps fit
+abbrev pub Load-accepts-what-fits : Type 0
+Load-accepts-what-fits = (m : Memory) (file : List ℕ) (e : Steps) → read unlimited file ≡ Ok e → Fits m e → load m [] file ≡ Ok e
+
 -- load accepts only where no step stands, and then gives the steps that the file means, whatever the memory
 abbrev pub Load-gives-file-steps : Type 0
 Load-gives-file-steps = (m : Memory) (before : Steps) (file : List ℕ) (e : Steps) → load m before file ≡ Ok e → (before ≡ []) × (e ≡ file-steps file)
