@@ -253,6 +253,7 @@ Examples =
     × (gives in-two-file ≡ loads in-two)
     × (gives everything-file ≡ loads everything)
     × (file-steps everything-file ≡ everything)
+    × (gives (lone (0 ∷ 0x8000000C ∷ 1 ∷ 2 ∷ [])) ≡ loads (steps (marked (put (float 0x200000001)) ∷ [])))
     -- 1: at least 16 bytes, and the letters
     × (gives (redbin ++ (2 ∷ replicate 8 0)) ≡ refuses 1 Header 0)
     × (gives (0x52 ∷ 0x45 ∷ 0x44 ∷ 0x42 ∷ 0x49 ∷ 0x4F ∷ 9 ∷ 9 ∷ replicate 8 0) ≡ refuses 1 Header 0)
