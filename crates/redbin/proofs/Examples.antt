@@ -191,4 +191,10 @@ examples = (
   refl,
   refl,
   refl,
+  refl,
+  refl,
+  refl,
+  refl,
+  refl,
+  refl,
 )
