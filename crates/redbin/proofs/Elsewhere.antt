@@ -24,7 +24,7 @@ lawful-fits m [] t k = omega arith
 lawful-fits m (begin l b ∷ e) t k = room-parts m e (need (l .name) b) (allowed m e l b (t .1) .room) k
 lawful-fits m (close ∷ e) t k = lawful-fits m e (t .0) k
 
-fits-tail : (m : Memory) (s : Step) (e : Steps) → Fits m (s ∷ e) → Fits m e
+pub fits-tail : (m : Memory) (s : Step) (e : Steps) → Fits m (s ∷ e) → Fits m e
 fits-tail m (begin l b) e f k = omega (arith, f k)
 fits-tail m close e f k = f k
 

@@ -15,7 +15,8 @@ pub mod Got
 pub mod Kept
 pub mod Loaded
 pub mod Elsewhere
-pub mod Meant
 pub mod Loops
+pub mod Meant
+pub mod Roomy
 mod Long
 pub mod Examples

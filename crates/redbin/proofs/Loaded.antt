@@ -74,13 +74,13 @@ symbol-table-got size r ns s h =
     let q = names-got (a₆ .value) _ (a₄ .value) (a₆ .at) ns s (a₆ .next) in
     (q .0, q .1 ∙ p₆ ∙ p₅ ∙ p₄ ∙ p₃ ∙ p₂ ∙ p₁)
 
-table-got : (b : Bool) (size : ℕ) (r : Reader) (ns : List Name) (s : Reader) → cond b (symbol-table size) (return []) r ≡ got ns s → All-lawful ns × (s .steps ≡ r .steps)
+pub table-got : (b : Bool) (size : ℕ) (r : Reader) (ns : List Name) (s : Reader) → cond b (symbol-table size) (return []) r ≡ got ns s → All-lawful ns × (s .steps ≡ r .steps)
 table-got true size r ns s h = symbol-table-got size r ns s h
 table-got false size r ns s h =
     let v : ns ≡ [] = same-value [] ns r s h in
     rw v (tt, ap (λ (y : Reader). y .steps) (same-reader [] ns r s h))
 
-start-got : (bytes : List ℕ) (r : Reader) (u : Unit {0}) (s : Reader) → start-of-file bytes r ≡ got u s → s .steps ≡ r .steps
+pub start-got : (bytes : List ℕ) (r : Reader) (u : Unit {0}) (s : Reader) → start-of-file bytes r ≡ got u s → s .steps ≡ r .steps
 unfolding start-of-file
 start-got bytes r u s h =
     let a₁ = came _ _ u s h in

@@ -1,6 +1,7 @@
--- What reading accepts in a memory, reading without a limit accepts too, with the same steps.
-use mathlib.Core.Path.{_≡_, refl}
-use mathlib.Core.Bool.{Bool}
+-- Reading into a memory answers what reading without a limit does, but where a value finds no room.
+use mathlib.Core.Path.{sym, ap, _∙_, _≡_, refl}
+use mathlib.Core.Bool.{true, false, cond, Bool}
+use mathlib.Core.Logic.{_⊎_, inl, inr, ⊎-elim}
 use mathlib.Core.List.{List, [], _∷_}
 use Prim.Native.Nat.{ℕ, zero, suc}
 use native.Mathlib.Omega.{arith}
@@ -11,29 +12,39 @@ use Rattle.steps.specs.declared.parts.TextKind.{TextKind}
 use Rattle.steps.specs.declared.parts.Holder.{Holder}
 use Rattle.steps.specs.declared.parts.Holder.the-variants.{List as OfList}
 use Rattle.steps.specs.declared.parts.Share.{Share}
-use Rattle.steps.specs.Steps.{Name, Tag, Content, none, logic, char, integer, float, text, Steps, put, close}
+use Rattle.steps.specs.Steps.{Name, Tag, Content, none, logic, char, integer, float, text, put, close}
 use Rattle.steps.specs.Outline.{share-family}
 use Rattle.steps.specs.Law.{Memory, need, has-room, deepest}
+use Rattle.redbin.proofs.Loops.{stop}
+use Rattle.refusal.specs.declared.Reason.the-variants.{NoMemory}
+use Rattle.refusal.specs.declared.Part.the-variants.{Record}
 use Rattle.redbin.specs.declared.form.Form.{Form}
 use Rattle.redbin.specs.declared.form.Form.the-variants.{Nothing as is-none, Logic as is-logic, Char as is-char, Integer as is-integer, Float as is-float, Text as is-text, List as is-list, Object as is-object, ShareText as shares-text, ShareList as shares-list, ShareObject as shares-object}
-use Rattle.redbin.specs.Reading.{Reader, Read, Reads, got, refused, after, in-memory, unlimited, push, Setting, each, hold, bare, heading-of, behind-padding, heading, room, add, target, add-share, add-text, on-boundary, add-float, add-list, add-context, add-object, content, value, records, whole-file, read, file-steps, signed, is-nonzero}
-use Rattle.redbin.specs.Promises.{Load-gives-file-steps}
+use Rattle.redbin.specs.Reading.{answer, load, because, steps-or-none, Reader, Read, Reads, got, refused, after, in-memory, unlimited, push, Setting, each, hold, bare, heading-of, behind-padding, heading, room, add, target, add-share, add-text, on-boundary, add-float, add-list, add-context, add-object, content, value, records, whole-file, read, signed, is-nonzero}
+use Rattle.redbin.specs.Promises.{Memory-decides-room-alone, Load-gives-file-steps}
 use Rattle.redbin.proofs.Fields.{then}
-use Rattle.redbin.proofs.Got.{came, passed′}
 
--- what the first accepts, the second accepts with the same outcome
+-- the reading found no room for a value
+abbrev No-room : {A : Type 0} → Read A → Type 0
+No-room x = (place : ℕ) × (x ≡ refused (because NoMemory Record place))
+
+-- two readings have the same outcome, or the first found no room
 record Onward {A : Type 0} (p q : Reads A) : Type 0 where
-  onward : (r : Reader) (a : A) (s : Reader) → p r ≡ got a s → q r ≡ got a s
+  onward : (r : Reader) → (p r ≡ q r) ⊎ No-room (p r)
 
 seq : {A B : Type 0} {m n : Reads A} {k l : A → Reads B} → Onward m n → ((a : A) → Onward (k a) (l a)) → Onward (λ r. after (m r) k) (λ r. after (n r) l)
-seq {m = m} {k = k} {l = l} h g = record {
-  onward = λ r b s e.
-      let c = came (m r) k b s e in
-      then l (h .onward r (c .value) (c .at) (c .was)) (g (c .value) .onward (c .at) b s (c .next));
-}
+seq {A} {B} {m} {n} {k} {l} h g = record { onward = λ r. go r (h .onward r) }
+  where
+    alike : (r : Reader) (x : Read A) → m r ≡ x → n r ≡ x → (after (m r) k ≡ after (n r) l) ⊎ No-room (after (m r) k)
+    alike r (got a s) p q = ⊎-elim (λ e. inl (then k p (e ∙ sym (then l q refl)))) (λ z. inr (z .0, then k p (z .1))) (g a .onward s)
+    alike r (refused x) p q = inl (stop k p ∙ sym (stop l q))
+
+    go : (r : Reader) → (m r ≡ n r) ⊎ No-room (m r) → (after (m r) k ≡ after (n r) l) ⊎ No-room (after (m r) k)
+    go r (inl e) = alike r (m r) refl (sym e)
+    go r (inr z) = inr (z .0, stop k (z .1))
 
 same : {A : Type 0} {m : Reads A} → Onward m m
-same = record { onward = λ r a s h. h }
+same = record { onward = λ r. inl refl }
 
 each-onward : (one two : Name → Reads (Unit {0})) → ((n : Name) → Onward (one n) (two n)) → (ns : List Name) → Onward (each one ns) (each two ns)
 unfolding each
@@ -53,7 +64,14 @@ module _ (m : Memory) (size : ℕ) (table : List Name) (payload : ℕ) where
 
   room-onward : (place : ℕ) (n : Memory) → Onward (room c place n) (room d place n)
   unfolding room
-  room-onward place n = record { onward = λ r u s h. passed′ (has-room m (r .steps) n) _ (got tt r) u s h .1 }
+  room-onward place n = record { onward = λ r. go r (has-room m (r .steps) n) }
+    where
+      found : Reader → Bool → Read (Unit {0})
+      found r b = cond b (got tt r) (refused (because NoMemory Record place))
+
+      go : (r : Reader) (b : Bool) → (found r b ≡ got tt r) ⊎ No-room (found r b)
+      go r true = inl refl
+      go r false = inr (place, refl)
 
   add-onward : (place : ℕ) (l : Tag) (v : Content) → Onward (add c place l v) (add d place l v)
   add-onward place l v = seq (room-onward place (need (l .name) (put v))) (λ u. push-onward _)
@@ -125,18 +143,16 @@ file-onward : (m : Memory) (bytes : List ℕ) → Onward (whole-file (in-memory 
 unfolding whole-file
 file-onward m bytes = seq same (λ u. seq same (λ count. seq same (λ payload. seq same (λ table. records-onward m (length bytes) table payload count))))
 
-pub gives-file-steps : Load-gives-file-steps
+pub decides-room-alone : Memory-decides-room-alone
 unfolding read
+decides-room-alone m bytes = ⊎-elim (λ e. inl (ap answer e)) (λ z. inr (z .0, ap answer (z .1))) (file-onward m bytes .onward (record { rest = bytes; steps = [] }))
+
+pub gives-file-steps : Load-gives-file-steps
 gives-file-steps m (s ∷ before) bytes e h = let z : _≡_ {A = ℕ} 0 1 = cc in absurd (omega arith)
-gives-file-steps m [] bytes e h = go (whole-file (in-memory m) bytes (record { rest = bytes; steps = [] })) refl
+gives-file-steps m [] bytes e h = ⊎-elim (λ p. (refl, ap steps-or-none (sym h ∙ p))) (λ z. absurd (refused-not (z .0) (z .1))) (decides-room-alone m bytes)
   where
-    go : (x : Read (Unit {0})) → whole-file (in-memory m) bytes (record { rest = bytes; steps = [] }) ≡ x → (_≡_ {A = Steps} [] []) × (e ≡ file-steps bytes)
-    go (got u s) q =
-        let p : Ok (s .steps) ≡ Ok e = rw q at h in
-        let v : e ≡ s .steps = cc in
-        let w = file-onward m bytes .onward (record { rest = bytes; steps = [] }) u s q in
-        (refl, rw w v)
-    go (refused x) q =
-        let p : Err x ≡ Ok e = rw q at h in
+    refused-not : (place : ℕ) → load m [] bytes ≡ Err (because NoMemory Record place) → ⊥
+    refused-not place q =
+        let p : Ok e ≡ Err (because NoMemory Record place) = sym h ∙ q in
         let z : _≡_ {A = ℕ} 0 1 = cc in
         absurd (omega arith)

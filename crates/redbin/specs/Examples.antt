@@ -253,6 +253,7 @@ Examples =
     × (gives in-two-file ≡ loads in-two)
     × (gives everything-file ≡ loads everything)
     × (file-steps everything-file ≡ everything)
+    × (gives (lone (0 ∷ 0x8000000C ∷ 1 ∷ 2 ∷ [])) ≡ loads (steps (marked (put (float 0x200000001)) ∷ [])))
     -- 1: at least 16 bytes, and the letters
     × (gives (redbin ++ (2 ∷ replicate 8 0)) ≡ refuses 1 Header 0)
     × (gives (0x52 ∷ 0x45 ∷ 0x44 ∷ 0x42 ∷ 0x49 ∷ 0x4F ∷ 9 ∷ 9 ∷ replicate 8 0) ≡ refuses 1 Header 0)
@@ -342,6 +343,7 @@ Examples =
     × (gives (one-named (table (0 ∷ []) (0xC3 ∷ 0xA9 ∷ 0 ∷ [])) 0) ≡ one-none (0xC3 ∷ 0xA9 ∷ []))
     × (gives (one-named (table (0 ∷ []) (replicate 255 0x61 ++ 0 ∷ [])) 0) ≡ one-none (replicate 255 0x61))
     × (gives (one-named (table (0 ∷ []) (replicate 256 0x61 ++ 0 ∷ [])) 0) ≡ refuses 7 Symbols 24)
+    × (gives (redbin ++ (2 ∷ 4 ∷ (words (0 ∷ 9 ∷ []) ++ table (0 ∷ []) (0 ∷ [])))) ≡ refuses 7 Symbols 24)
     -- names that are not used, are repeated or overlap, and bytes of no name
     × (gives (one-named (table (4 ∷ 0 ∷ 1 ∷ 0 ∷ []) (0x62 ∷ 0x61 ∷ 0 ∷ 0x80 ∷ 0x63 ∷ 0 ∷ [])) 2) ≡ one-none a)
     -- 8: types
@@ -376,8 +378,11 @@ Examples =
     × (gives (lone (0x20 ∷ 0 ∷ 0 ∷ 0 ∷ 0x0E ∷ 0 ∷ [])) ≡ refuses 9 Record 32)
     × (gives (lone (0x20 ∷ 0 ∷ 0 ∷ 0 ∷ 0x0400000E ∷ 0 ∷ [])) ≡ refuses 9 Record 32)
     × (gives (lone (0x20 ∷ 0 ∷ 0 ∷ 0 ∷ 0x8800000E ∷ 0 ∷ [])) ≡ refuses 9 Record 32)
+    × (gives (lone (0x20 ∷ 0 ∷ 0 ∷ 0 ∷ 0x0800010E ∷ 0 ∷ [])) ≡ refuses 9 Record 32)
+    × (gives (lone (0x20 ∷ 0 ∷ 0 ∷ 0 ∷ 0x0E ∷ [])) ≡ refuses 9 Record 32)
     × (gives (lone (0x80005 ∷ 0 ∷ 0x1FF ∷ 0 ∷ [])) ≡ refuses 9 Reference 24)
     × (gives (lone (0x80005 ∷ 0 ∷ 0x800000FF ∷ 0 ∷ [])) ≡ refuses 9 Reference 24)
+    × (gives (lone (0x80005 ∷ 0 ∷ 0x1FF ∷ [])) ≡ refuses 9 Reference 24)
     -- 10: contents
     × (gives (lone (0x04 ∷ 2 ∷ [])) ≡ refuses 10 Record 20)
     × (gives (lone (0x0A ∷ 0x110000 ∷ [])) ≡ refuses 10 Record 20)
@@ -428,6 +433,8 @@ Examples =
     × (gives-in 0 0 0 (lone (0x05 ∷ 0 ∷ [])) ≡ refuses 4 Record 24)
     × (gives-in 0 0 0 (lone (0x05 ∷ 0 ∷ 1 ∷ [])) ≡ refuses 14 Record 16)
     × (gives-in 1 0 0 (lone (0x05 ∷ 0 ∷ 1 ∷ [])) ≡ refuses 4 Record 28)
+    × (gives-in 0 0 0 (lone (0x20 ∷ 0 ∷ 0 ∷ [])) ≡ refuses 4 Record 28)
+    × (gives-in 0 0 0 (lone (0x20 ∷ 0 ∷ 0 ∷ 0x80000000 ∷ [])) ≡ refuses 5 Record 28)
     × (gives-in 0 0 0 (lone (0x20 ∷ 0 ∷ 0 ∷ 0 ∷ 0x03 ∷ [])) ≡ refuses 14 Record 16)
     × (gives-in 1 0 0 (lone (0x20 ∷ 0 ∷ 0 ∷ 0 ∷ 0x03 ∷ [])) ≡ refuses 8 Record 32)
     × (gives-in 2 0 0 (one-named (table (0 ∷ []) (0x61 ∷ 0 ∷ [])) 0) ≡ refuses 14 Record 58)

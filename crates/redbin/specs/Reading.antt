@@ -150,7 +150,7 @@ module _ (size : ℕ) where
     enough part (n * unit)
     series part unit limit why n
 
-  -- a field of four bytes that may be any
+  -- a field of four bytes that may be any: no four bytes reach this limit
   abbrev pub any-word : Part → Reads ℕ
   any-word part = below part 4 word-end Large
 
@@ -318,6 +318,7 @@ module _ (c : Setting) where
   unfoldable pub on-boundary : Reads (Unit {0})
   on-boundary r = cond (eqb ((c .payload - length (r .rest)) % 8) 0) (got tt r) (refused (because BadContent Record (c .size - length (r .rest))))
 
+  -- then they may be any: no eight bytes reach this limit
   unfoldable pub add-float : ℕ → Tag → Reads (Unit {0})
   add-float start l = do
     on-boundary

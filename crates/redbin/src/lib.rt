@@ -1,5 +1,5 @@
 // The file format of documents: what a file means, and the one file that stands for given steps.
-ghost use Rattle.redbin.specs.Promises.{Canonical-reads-back, Canonical-tells-apart, Load-is-lawful, Load-gives-file-steps, Paths-lead};
+ghost use Rattle.redbin.specs.Promises.{Canonical-reads-back, Canonical-tells-apart, Load-is-lawful, Memory-decides-room-alone, Load-accepts-what-fits, Load-gives-file-steps, Paths-lead};
 ghost use Rattle.redbin.specs.Examples.{Examples};
 
 pub mod form;
@@ -19,6 +19,16 @@ pub fn canonical_tells_apart()
 // What is read keeps the law of steps.
 pub fn load_is_lawful()
     ensures { λ _. ⌜ Load-is-lawful ⌝ }
+{}
+
+// Memory decides nothing about a file but whether its values have room.
+pub fn memory_decides_room_alone()
+    ensures { λ _. ⌜ Memory-decides-room-alone ⌝ }
+{}
+
+// A file that can be read is read into every memory that its steps fit.
+pub fn load_accepts_what_fits()
+    ensures { λ _. ⌜ Load-accepts-what-fits ⌝ }
 {}
 
 // What a file means does not depend on the memory into which it is read.
