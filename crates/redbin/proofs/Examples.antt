@@ -197,4 +197,5 @@ examples = (
   refl,
   refl,
   refl,
+  refl,
 )

@@ -339,6 +339,7 @@ Examples =
     × (gives (one-named (table (1 ∷ []) (0x61 ∷ 0 ∷ [])) 0) ≡ refuses 7 Symbols 24)
     × (gives (one-named (table (2 ∷ []) (0x61 ∷ 0 ∷ [])) 0) ≡ refuses 7 Symbols 24)
     × (gives (one-named (table (0 ∷ 0xFFFFFFFF ∷ []) (0x61 ∷ 0 ∷ [])) 0) ≡ refuses 7 Symbols 28)
+    × (gives (one-named (table (9 ∷ 9 ∷ []) (0x61 ∷ 0 ∷ [])) 0) ≡ refuses 7 Symbols 24)
     × (gives (one-named (table (0 ∷ []) (0x80 ∷ 0 ∷ [])) 0) ≡ refuses 7 Symbols 24)
     × (gives (one-named (table (0 ∷ []) (0xC3 ∷ 0xA9 ∷ 0 ∷ [])) 0) ≡ one-none (0xC3 ∷ 0xA9 ∷ []))
     × (gives (one-named (table (0 ∷ []) (replicate 255 0x61 ++ 0 ∷ [])) 0) ≡ one-none (replicate 255 0x61))
