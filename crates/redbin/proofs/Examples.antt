@@ -91,6 +91,7 @@ examples = (
   refl,
   refl,
   refl,
+  refl,
   too-long 1048561 (lit< tt),
   just-fits 1048560 (lit< tt) (lit< tt),
   wrong-version 1048561,
