@@ -1,0 +1,58 @@
+-- What fields come to, by the place in the file.
+use mathlib.Core.Path.{_≡_, refl, sym, ap, _∙_}
+use mathlib.Core.Bool.{true, false, cond}
+use mathlib.Core.List.{List, [], _∷_}
+use Prim.Native.Nat.{ℕ, zero, suc, _+_, _-_, _*_, _≤_, _<_}
+use native.Mathlib.Omega.{arith}
+use native.Mathlib.Numerals.{unary-clauses}
+use lib.Dec.{ltb}
+use lib.ListN.{length, take, drop, getD, length-drop}
+use Rattle.std.proofs.shelf.Ways.{tells}
+use Rattle.refusal.specs.declared.Part.{Part}
+use Rattle.refusal.specs.declared.Reason.{Reason}
+use Rattle.refusal.specs.declared.Reason.the-variants.{Short}
+use Rattle.steps.specs.Steps.{Steps}
+use Rattle.redbin.specs.Bytes.{number}
+use Rattle.redbin.specs.Reading.{Read, got, refused, because, below}
+use Rattle.load.specs.Ran.{state}
+
+-- the number that four bytes from a place on stand for
+abbrev pub four-at : List ℕ → ℕ → ℕ
+four-at file p = getD file p 0 + getD file (p + 1) 0 * 256 + getD file (p + 2) 0 * 65536 + getD file (p + 3) 0 * 16777216
+
+pub number-four : (file : List ℕ) (p : ℕ) → p + 4 ≤ length file → number (take 4 (drop p file)) ≡ four-at file p
+unfolding number
+number-four (a ∷ b ∷ c ∷ d ∷ file) zero h = omega arith
+number-four (a ∷ b ∷ c ∷ []) zero h = absurd (omega arith)
+number-four (a ∷ b ∷ []) zero h = absurd (omega arith)
+number-four (a ∷ []) zero h = absurd (omega arith)
+number-four [] p h = absurd (omega arith)
+number-four (a ∷ file) (suc p) h = simp unary-clauses (simp unary-clauses at (number-four file p (omega arith)))
+
+module _ (file : List ℕ) (p : ℕ) (within : p ≤ length file) where
+  pub left-at : length (drop p file) ≡ length file - p
+  left-at = length-drop p file
+
+  pub place-at : length file - length (drop p file) ≡ p
+  place-at = rw left-at (omega arith)
+
+  module _ (part : Part) (unit limit : ℕ) (why : Reason) (e : Steps) where
+    pub below-short : length file - p < unit → below (length file) part unit limit why (state (drop p file) e) ≡ refused (because Short part p)
+    unfolding below
+    below-short h =
+        let t : ltb (length file - p) unit ≡ true = grind (arith, tells) in
+        rw (place-at, left-at, t)
+
+    pub below-large : unit ≤ length file - p → limit ≤ number (take unit (drop p file)) → below (length file) part unit limit why (state (drop p file) e) ≡ refused (because why part p)
+    unfolding below
+    below-large h l =
+        let t : ltb (length file - p) unit ≡ false = grind (arith, tells) in
+        let u : ltb (number (take unit (drop p file))) limit ≡ false = grind (arith, tells) in
+        rw (place-at, left-at, t, u)
+
+    pub below-got : unit ≤ length file - p → number (take unit (drop p file)) < limit → below (length file) part unit limit why (state (drop p file) e) ≡ got (number (take unit (drop p file))) (state (drop unit (drop p file)) e)
+    unfolding below
+    below-got h l =
+        let t : ltb (length file - p) unit ≡ false = grind (arith, tells) in
+        let u : ltb (number (take unit (drop p file))) limit ≡ true = grind (arith, tells) in
+        rw (left-at, t, u)

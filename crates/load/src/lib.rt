@@ -1,0 +1,2 @@
+// Files read into a store.
+pub mod reader;
