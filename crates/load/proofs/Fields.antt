@@ -7,14 +7,15 @@ use native.Mathlib.Omega.{arith}
 use native.Mathlib.Numerals.{unary-clauses}
 use lib.Dec.{ltb}
 use lib.ListN.{length, take, drop, getD, length-drop}
+use lib.Seq.{drop-drop}
 use Rattle.std.proofs.shelf.Ways.{tells}
 use Rattle.refusal.specs.declared.Part.{Part}
 use Rattle.refusal.specs.declared.Reason.{Reason}
 use Rattle.refusal.specs.declared.Reason.the-variants.{Short}
 use Rattle.steps.specs.Steps.{Steps}
 use Rattle.redbin.specs.Bytes.{number}
-use Rattle.redbin.specs.Reading.{Read, got, refused, because, below}
-use Rattle.load.specs.Ran.{state}
+use Rattle.redbin.specs.Reading.{Read, got, refused, because, after, enough, skip, below}
+use Rattle.load.specs.Ran.{state, piece}
 
 -- the number that four bytes from a place on stand for
 abbrev pub four-at : List ℕ → ℕ → ℕ
@@ -28,6 +29,23 @@ number-four (a ∷ b ∷ []) zero h = absurd (omega arith)
 number-four (a ∷ []) zero h = absurd (omega arith)
 number-four [] p h = absurd (omega arith)
 number-four (a ∷ file) (suc p) h = simp unary-clauses (simp unary-clauses at (number-four file p (omega arith)))
+
+-- and the four bytes behind these
+abbrev pub next-four : List ℕ → ℕ → ℕ
+next-four file p = getD file (p + 4) 0 + getD file (p + 5) 0 * 256 + getD file (p + 6) 0 * 65536 + getD file (p + 7) 0 * 16777216
+
+pub number-eight : (file : List ℕ) (p : ℕ) → p + 8 ≤ length file → number (take 8 (drop p file)) ≡ next-four file p * 4294967296 + four-at file p
+unfolding number
+number-eight (a ∷ b ∷ c ∷ d ∷ a₂ ∷ b₂ ∷ c₂ ∷ d₂ ∷ file) zero h = omega arith
+number-eight (a ∷ b ∷ c ∷ d ∷ a₂ ∷ b₂ ∷ c₂ ∷ []) zero h = absurd (omega arith)
+number-eight (a ∷ b ∷ c ∷ d ∷ a₂ ∷ b₂ ∷ []) zero h = absurd (omega arith)
+number-eight (a ∷ b ∷ c ∷ d ∷ a₂ ∷ []) zero h = absurd (omega arith)
+number-eight (a ∷ b ∷ c ∷ d ∷ []) zero h = absurd (omega arith)
+number-eight (a ∷ b ∷ c ∷ []) zero h = absurd (omega arith)
+number-eight (a ∷ b ∷ []) zero h = absurd (omega arith)
+number-eight (a ∷ []) zero h = absurd (omega arith)
+number-eight [] p h = absurd (omega arith)
+number-eight (a ∷ file) (suc p) h = simp unary-clauses (simp unary-clauses at (number-eight file p (omega arith)))
 
 module _ (file : List ℕ) (p : ℕ) (within : p ≤ length file) where
   pub left-at : length (drop p file) ≡ length file - p
@@ -56,3 +74,16 @@ module _ (file : List ℕ) (p : ℕ) (within : p ≤ length file) where
         let t : ltb (length file - p) unit ≡ false = grind (arith, tells) in
         let u : ltb (number (take unit (drop p file))) limit ≡ true = grind (arith, tells) in
         rw (left-at, t, u)
+
+  module _ (part : Part) (n : ℕ) (e : Steps) where
+    pub piece-short : length file - p < n → piece (length file) part n (state (drop p file) e) ≡ refused (because Short part p)
+    unfolding after enough
+    piece-short h =
+        let t : ltb (length file - p) n ≡ true = grind (arith, tells) in
+        rw (place-at, left-at, t)
+
+    pub piece-got : n ≤ length file - p → piece (length file) part n (state (drop p file) e) ≡ got (take n (drop p file)) (state (drop (p + n) file) e)
+    unfolding after enough skip
+    piece-got h =
+        let t : ltb (length file - p) n ≡ false = grind (arith, tells) in
+        rw (left-at, t, drop-drop)

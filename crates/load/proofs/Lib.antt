@@ -1,1 +1,5 @@
+pub mod Bools
 pub mod Fields
+pub mod Headings
+pub mod Starts
+pub mod Then

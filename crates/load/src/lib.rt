@@ -1,2 +1,3 @@
 // Files read into a store.
+pub mod header;
 pub mod reader;

@@ -3,6 +3,8 @@ ghost use lib.ListN.{length};
 ghost use denote.Ref.{now};
 
 mod fields;
+mod headings;
+mod start;
 
 // A place in a file that is read from its first byte to its last.
 #[derive(Drop)]

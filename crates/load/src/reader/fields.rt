@@ -1,11 +1,19 @@
 // Fields of a file.
 ghost use mathlib.Core.Path.{_≡_};
-ghost use Rattle.redbin.specs.Reading.{below};
-ghost use Rattle.load.specs.Ran.{Did};
+ghost use denote.Ref.{now as read};
+ghost use Rattle.refusal.specs.declared.Reason.the-variants.{Large};
+ghost use Rattle.steps.specs.Law.{float-end};
+ghost use Rattle.redbin.specs.Reading.{below, word, any-word};
+ghost use Rattle.load.specs.Ran.{Did, as-read, piece};
 use crate::reader::Reader;
 use refusal::Part;
 use refusal::Reason;
 use refusal::Refusal;
+
+// Most fields of four bytes stop here, and all of them there.
+const FIELD_END: u64 = 0x8000_0000;
+
+const WORD_END: u64 = 0x1_0000_0000;
 
 impl<'f> Reader<'f> {
     // Before the first byte of a file.
@@ -51,5 +59,65 @@ impl<'f> Reader<'f> {
         }
         self.place = place + 4;
         Ok(n)
+    }
+
+    // A count, size, length, head, class or arity.
+    pub fn word(&mut self, part: Part) -> Result<u32, Refusal>
+        ensures { λ r. ⌜ Did (now (self .entry)) (λ size. word size part) r (now (self .exit)) ⌝ }
+    {
+        self.number(part, FIELD_END, Reason::Large)
+    }
+
+    // Four bytes that may be any.
+    pub fn any_word(&mut self, part: Part) -> Result<u32, Refusal>
+        ensures { λ r. ⌜ Did (now (self .entry)) (λ size. any-word size part) r (now (self .exit)) ⌝ }
+    {
+        self.number(part, WORD_END, Reason::Large)
+    }
+
+    // Eight bytes that may be any.
+    pub fn double_word(&mut self, part: Part) -> Result<u64, Refusal>
+        ensures { λ r. ⌜ Did (now (self .entry)) (λ size. below size part 8 float-end Large) r (now (self .exit)) ⌝ }
+    {
+        let place = self.place;
+        let file = self.file;
+        if file.len() - place < 8 {
+            return Err(Refusal {
+                reason: Reason::Short,
+                part,
+                place,
+            });
+        }
+        let low = u32::from_le_bytes([
+            file[place],
+            file[place + 1],
+            file[place + 2],
+            file[place + 3],
+        ]);
+        let high = u32::from_le_bytes([
+            file[place + 4],
+            file[place + 5],
+            file[place + 6],
+            file[place + 7],
+        ]);
+        self.place = place + 8;
+        Ok(high as u64 * WORD_END + low as u64)
+    }
+
+    // So many bytes, as they are.
+    pub fn bytes(&mut self, part: Part, count: usize) -> Result<&'f [u8], Refusal>
+        ensures { λ r. ⌜ Did (now (self .entry)) (λ size. piece size part count) (as-read read r) (now (self .exit)) ⌝ }
+    {
+        let place = self.place;
+        let file = self.file;
+        if file.len() - place < count {
+            return Err(Refusal {
+                reason: Reason::Short,
+                part,
+                place,
+            });
+        }
+        self.place = place + count;
+        Ok(&file[place..place + count])
     }
 }
