@@ -21,6 +21,13 @@ use Rattle.load.specs.Ran.{state, piece}
 abbrev pub four-at : List ℕ → ℕ → ℕ
 four-at file p = getD file p 0 + getD file (p + 1) 0 * 256 + getD file (p + 2) 0 * 65536 + getD file (p + 3) 0 * 16777216
 
+pub number-two : (file : List ℕ) (p : ℕ) → p + 2 ≤ length file → number (take 2 (drop p file)) ≡ getD file (p + 1) 0 * 256 + getD file p 0
+unfolding number
+number-two (a ∷ b ∷ file) zero h = omega arith
+number-two (a ∷ []) zero h = absurd (omega arith)
+number-two [] p h = absurd (omega arith)
+number-two (a ∷ file) (suc p) h = simp unary-clauses (simp unary-clauses at (number-two file p (omega arith)))
+
 pub number-four : (file : List ℕ) (p : ℕ) → p + 4 ≤ length file → number (take 4 (drop p file)) ≡ four-at file p
 unfolding number
 number-four (a ∷ b ∷ c ∷ d ∷ file) zero h = omega arith

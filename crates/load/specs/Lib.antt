@@ -1,2 +1,3 @@
 pub mod Announced
 pub mod Ran
+pub mod Runs

@@ -1,3 +1,5 @@
 // Files read into a store.
 pub mod header;
 pub mod reader;
+pub mod runs;
+pub mod unit;
