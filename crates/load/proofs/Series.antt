@@ -11,10 +11,12 @@ use lib.Seq.{take-take, drop-drop}
 use Rattle.std.proofs.shelf.Lists.{drop-take}
 use Rattle.std.proofs.shelf.Ways.{tells}
 use Rattle.refusal.specs.declared.Part.{Part}
+use Rattle.refusal.specs.declared.Reason.the-variants.{Short}
 use Rattle.refusal.specs.declared.Reason.{Reason}
 use Rattle.steps.specs.Steps.{Steps}
 use Rattle.redbin.specs.Bytes.{number}
-use Rattle.redbin.specs.Reading.{got, refused, because, after, below, series}
+use Rattle.redbin.specs.Reading.{got, refused, because, after, enough, below, series, run}
+use Rattle.load.proofs.Fields.{left-at, place-at}
 use Rattle.load.specs.Ran.{state}
 use Rattle.load.specs.Runs.{width, entry, entries}
 use Rattle.load.specs.declared.unit.Unit.{Unit as Width}
@@ -85,3 +87,31 @@ entries-take unit zero bytes = refl
 entries-take unit (suc n) bytes =
     let s : suc n * unit ≡ unit + n * unit = suc-mul n unit ∙ add-comm (n * unit) unit in
     rw (s, take-take unit (unit + n * unit) bytes (omega arith), drop-take unit (n * unit) bytes, entries-take unit n (drop unit bytes))
+
+module _ (f : List ℕ) (p : ℕ) (within : p ≤ length f) (part : Part) (unit limit : ℕ) (why : Reason) (n : ℕ) (e : Steps) where
+  pub run-short : length f - p < n * unit → run (length f) part unit limit why n (state (drop p f) e) ≡ refused (because Short part p)
+  unfolding run after enough
+  run-short h =
+      let t : ltb (length f - p) (n * unit) ≡ true = grind (arith, tells) in
+      rw (place-at f p within, left-at f p within, t)
+
+  module _ (fits : n * unit ≤ length f - p) where
+    enough-first : run (length f) part unit limit why n (state (drop p f) e) ≡ series (length f) part unit limit why n (state (drop p f) e)
+    unfolding run after enough
+    enough-first =
+        let t : ltb (length f - p) (n * unit) ≡ false = grind (arith, tells) in
+        rw (left-at f p within, t)
+
+    pub run-got : ((i : ℕ) → i < n → entry unit i (drop p f) < limit) →
+        run (length f) part unit limit why n (state (drop p f) e) ≡ got (entries unit n (take (n * unit) (drop p f))) (state (drop (p + n * unit) f) e)
+    run-got all =
+        let l = left-at f p within in
+        enough-first ∙ series-all (length f) part unit limit why e n (drop p f) (rw l fits) all
+        ∙ rw (drop-drop (n * unit) p f, entries-take unit n (drop p f))
+
+    pub run-bad : (k : ℕ) → k < n → limit ≤ entry unit k (drop p f) → ((i : ℕ) → i < k → entry unit i (drop p f) < limit) →
+        run (length f) part unit limit why n (state (drop p f) e) ≡ refused (because why part (p + k * unit))
+    run-bad k lt bad all =
+        let l = left-at f p within in
+        let s = place-at f p within in
+        enough-first ∙ series-bad (length f) part unit limit why e n k (drop p f) (rw l (omega arith)) (rw l fits) lt bad all ∙ rw s

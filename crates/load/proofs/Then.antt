@@ -1,5 +1,5 @@
 -- One reading after another.
-use mathlib.Core.Path.{_≡_, refl, ap, _∙_}
+use mathlib.Core.Path.{_≡_, refl, sym, ap, _∙_}
 use mathlib.Core.List.{List}
 use Prim.Native.Nat.{ℕ}
 use denote.Ref.{now}
@@ -8,8 +8,9 @@ use Rattle.std.specs.declared.result.Result.{Result}
 use Rattle.std.specs.declared.result.Result.the-variants.{Ok, Err}
 use Rattle.refusal.specs.declared.Refusal.{Refusal}
 use Rattle.steps.specs.Steps.{Steps}
-use Rattle.redbin.specs.Reading.{Reads, got, refused, after, _>>=_}
+use Rattle.redbin.specs.Reading.{Reads, got, refused, after, here, _>>=_}
 use Rattle.load.specs.declared.reader.Reader.{Reader}
+use Rattle.load.proofs.Fields.{place-at}
 use Rattle.load.specs.Ran.{Ran, Did, state, size-of, rest-of}
 
 pub ran-then : {A B : Type 0} (m : Reads A) (k : A → Reads B) (a : A) (x y z : List ℕ) (answer : Result B Refusal) → Ran m x (Ok a) y → Ran (k a) y answer z → Ran (m >>= k) x answer z
@@ -26,14 +27,15 @@ pub ran-by : {A : Type 0} (m m′ : Reads A) (x y z : List ℕ) (answer : Result
 ran-by m m′ x y z (Ok b) h g = λ e. h e ∙ g e
 ran-by m m′ x y z (Err w) h g = λ e. h e ∙ g e
 
-module _ {A B : Type 0} (r s : Reader) (m : ℕ → Reads A) (k : ℕ → A → Reads B) where
-  pub then : (t : Reader) (a : A) (answer : Result B Refusal) → Did r m (Ok a) s → Did s (λ n. k n a) answer t → Did r (λ n. m n >>= k n) answer t
-  then t a answer f g = record {
-    file = g .file ∙ f .file;
-    ran =
-        let e : size-of s ≡ size-of r = ap (λ (x : _). length (now x)) (f .file) in
-        ran-then (m (size-of r)) (k (size-of r)) a (rest-of r) (rest-of s) (rest-of t) answer (f .ran) (rw e at (g .ran));
-  }
+-- a reader of the same file
+module _ {A : Type 0} (r s t : Reader) (m : ℕ → Reads A) (answer : Result A Refusal) where
+  pub ran-at : Did s m answer t → s .file ≡ r .file → Ran (m (size-of r)) (rest-of s) answer (rest-of t)
+  ran-at d h =
+      let e : size-of s ≡ size-of r = ap (λ (x : _). length (now x)) h in
+      rw e at (d .ran)
 
-  pub stop : (w : Refusal) → Did r m (Err w) s → Did r (λ n. m n >>= k n) (Err w) s
-  stop w f = record { file = f .file; ran = ran-stop (m (size-of r)) (k (size-of r)) w (rest-of r) (rest-of s) (rest-of s) (f .ran) }
+pub here-at : (r s : Reader) (e : Steps) → s .file ≡ r .file → here (size-of r) (state (rest-of s) e) ≡ got (s .place) (state (rest-of s) e)
+unfolding here
+here-at r s e h =
+    let k : size-of r ≡ size-of s = ap (λ (x : _). length (now x)) (sym h) in
+    rw (k, place-at (s .file .now) (s .place) (s .within))

@@ -2,4 +2,5 @@
 pub mod header;
 pub mod reader;
 pub mod runs;
+pub mod symbols;
 pub mod unit;

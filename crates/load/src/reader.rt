@@ -4,7 +4,9 @@ ghost use denote.Ref.{now};
 
 mod fields;
 mod headings;
+mod runs;
 mod start;
+mod symbols;
 
 // A place in a file that is read from its first byte to its last.
 #[derive(Drop)]

@@ -1,0 +1,23 @@
+// The symbol table of a file.
+ghost use mathlib.Core.Path.{_≡_};
+ghost use Prim.Native.Nat.{_*_, _≤_};
+ghost use lib.ListN.{length};
+ghost use Rattle.load.specs.Tables.{Unnamed};
+use crate::runs::number_at;
+use crate::runs::span;
+use crate::symbols::name_at;
+use crate::unit::Unit;
+
+// Of `n` offsets, the index of the first that leads to no name in the strings.
+pub fn first_unnamed(offsets: &[u8], strings: &[u8], n: u32) -> Option<u32>
+    requires { ⌜ n * 4 ≤ length (now offsets) ⌝ }
+    ensures { λ r. ⌜ Unnamed (now (strings .entry)) (now (offsets .entry)) n r ⌝ }
+{
+    for i in 0..n {
+        let offset = number_at(offsets, span(Unit::Four, i), Unit::Four);
+        if name_at(strings, offset).is_none() {
+            return Some(i);
+        }
+    }
+    None
+}
