@@ -1,5 +1,7 @@
+pub mod Adding
 pub mod Bools
 pub mod Fields
+pub mod Filling
 pub mod Headings
 pub mod Names
 pub mod Series

@@ -11,6 +11,7 @@ use Rattle.steps.specs.Steps.{Steps}
 use Rattle.redbin.specs.Reading.{Reads, got, refused, after, here, _>>=_}
 use Rattle.load.specs.declared.reader.Reader.{Reader}
 use Rattle.load.proofs.Fields.{place-at}
+use Rattle.load.specs.Filled.{Came}
 use Rattle.load.specs.Ran.{Ran, Did, state, size-of, rest-of}
 
 pub ran-then : {A B : Type 0} (m : Reads A) (k : A → Reads B) (a : A) (x y z : List ℕ) (answer : Result B Refusal) → Ran m x (Ok a) y → Ran (k a) y answer z → Ran (m >>= k) x answer z
@@ -39,3 +40,9 @@ unfolding here
 here-at r s e h =
     let k : size-of r ≡ size-of s = ap (λ (x : _). length (now x)) (sym h) in
     rw (k, place-at (s .file .now) (s .place) (s .within))
+
+-- a field, and what is done with it
+pub came-then : {A B : Type 0} (m : Reads A) (k : A → Reads B) (a : A) (x y z : List ℕ) (d e f : Steps) (answer : Result B Refusal) → m (state x d) ≡ got a (state y e) → Came (k a) y e answer z f → Came (m >>= k) x d answer z f
+unfolding after
+came-then m k a x y z d e f (Ok b) h g = rw h g
+came-then m k a x y z d e f (Err w) h g = rw h g

@@ -1,4 +1,5 @@
 pub mod Announced
+pub mod Filled
 pub mod Names
 pub mod Ran
 pub mod Runs

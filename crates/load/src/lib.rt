@@ -1,6 +1,8 @@
 // Files read into a store.
+pub mod add;
 pub mod header;
 pub mod reader;
 pub mod runs;
+pub mod scalars;
 pub mod symbols;
 pub mod unit;

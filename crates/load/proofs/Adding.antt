@@ -1,0 +1,55 @@
+-- What adding a value comes to.
+use mathlib.Core.Path.{_≡_, refl, sym, ap, _∙_}
+use mathlib.Core.Bool.{Bool, true, false}
+use mathlib.Core.List.{List, _∷_}
+use Prim.Native.Nat.{ℕ, _<_}
+use native.Mathlib.Omega.{arith}
+use lib.Dec.{ltb}
+use lib.ListN.{length}
+use Rattle.std.proofs.shelf.Ways.{tells}
+use Rattle.std.specs.declared.option.Option.{Option}
+use Rattle.std.specs.declared.option.Option.the-variants.{Some, None}
+use Rattle.refusal.specs.declared.Reason.{Reason}
+use Rattle.refusal.specs.declared.Reason.the-variants.{NoMemory, BadName, NotAllowed, TooDeep}
+use Rattle.refusal.specs.declared.Part.the-variants.{Record}
+use Rattle.steps.specs.Steps.{Steps, Tag, Begun, Content, put, begin}
+use Rattle.steps.specs.Outline.{values, opened}
+use Rattle.steps.specs.Law.{Memory, need, unless, has-room, refusal, name-ok, begun-ok, content-ok, deepest}
+use Rattle.redbin.specs.Reading.{Setting, got, refused, because, after, room, push, add, in-memory}
+use Rattle.load.specs.Ran.{state}
+
+-- a step that is refused for no other reason is refused for memory
+only-room : (a b c d : Bool) → a ≡ true → b ≡ true → c ≡ true → (o : Option Reason) → unless a BadName (unless b NotAllowed (unless c TooDeep (unless d NoMemory None))) ≡ o → unless d NoMemory None ≡ o
+only-room true true true d ha hb hc o h = h
+only-room false b c d ha hb hc o h = let z : _≡_ {A = ℕ} 0 1 = cc in absurd (omega arith)
+only-room true false c d ha hb hc o h = let z : _≡_ {A = ℕ} 0 1 = cc in absurd (omega arith)
+only-room true true false d ha hb hc o h = let z : _≡_ {A = ℕ} 0 1 = cc in absurd (omega arith)
+
+roomy : (d : Bool) → unless d NoMemory None ≡ None → d ≡ true
+roomy true h = refl
+roomy false h = let z : _≡_ {A = ℕ} 0 1 = cc in absurd (omega arith)
+
+roomless : (d : Bool) (why : Reason) → unless d NoMemory None ≡ Some why → d ≡ false
+roomless false why h = refl
+roomless true why h = let z : _≡_ {A = ℕ} 0 1 = cc in absurd (omega arith)
+
+module _ (m : Memory) (e : Steps) (l : Tag) (b : Begun) (named : name-ok (opened e) (l .name) ≡ true) (allowed : begun-ok (values e) b ≡ true) (deep : length (opened e) < deepest) where
+  step-room : (o : Option Reason) → refusal m e (begin l b) ≡ o → unless (has-room m e (need (l .name) b)) NoMemory None ≡ o
+  step-room o h =
+      let t : ltb (length (opened e)) 32 ≡ true = grind (arith, tells) in
+      only-room _ _ _ _ named allowed t o h
+
+  pub has-it : refusal m e (begin l b) ≡ None → has-room m e (need (l .name) b) ≡ true
+  has-it h = roomy _ (step-room None h)
+
+  pub lacks-it : (why : Reason) → refusal m e (begin l b) ≡ Some why → has-room m e (need (l .name) b) ≡ false
+  lacks-it why h = roomless _ why (step-room (Some why) h)
+
+module _ (c : Setting) (m : Memory) (uses : c .uses ≡ in-memory m) (bytes : List ℕ) (e : Steps) (place : ℕ) (l : Tag) (v : Content) where
+  pub add-got : has-room m e (need (l .name) (put v)) ≡ true → add c place l v (state bytes e) ≡ got tt (state bytes (begin l (put v) ∷ e))
+  unfolding room push after
+  add-got h = rw (uses, h)
+
+  pub add-refused : has-room m e (need (l .name) (put v)) ≡ false → add c place l v (state bytes e) ≡ refused (because NoMemory Record place)
+  unfolding room push after
+  add-refused h = rw (uses, h)
