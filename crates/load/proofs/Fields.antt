@@ -2,19 +2,20 @@
 use mathlib.Core.Path.{_≡_, refl, sym, ap, _∙_}
 use mathlib.Core.Bool.{true, false, cond}
 use mathlib.Core.List.{List, [], _∷_}
-use Prim.Native.Nat.{ℕ, zero, suc, _+_, _-_, _*_, _≤_, _<_}
+use Prim.Native.Nat.{ℕ, zero, suc, _+_, _-_, _*_, _%_, _≤_, _<_}
 use native.Mathlib.Omega.{arith}
 use native.Mathlib.Numerals.{unary-clauses}
-use lib.Dec.{ltb}
+use lib.Dec.{eqb, ltb}
 use lib.ListN.{length, take, drop, getD, length-drop}
 use lib.Seq.{drop-drop}
 use Rattle.std.proofs.shelf.Ways.{tells}
 use Rattle.refusal.specs.declared.Part.{Part}
 use Rattle.refusal.specs.declared.Reason.{Reason}
-use Rattle.refusal.specs.declared.Reason.the-variants.{Short}
+use Rattle.refusal.specs.declared.Reason.the-variants.{Short, BadContent}
+use Rattle.refusal.specs.declared.Part.the-variants.{Record}
 use Rattle.steps.specs.Steps.{Steps}
 use Rattle.redbin.specs.Bytes.{number}
-use Rattle.redbin.specs.Reading.{Read, got, refused, because, after, enough, skip, below}
+use Rattle.redbin.specs.Reading.{Read, got, refused, because, after, enough, skip, below, on-boundary, Setting}
 use Rattle.load.specs.Ran.{state, piece}
 
 -- the number that four bytes from a place on stand for
@@ -94,3 +95,12 @@ module _ (file : List ℕ) (p : ℕ) (within : p ≤ length file) where
     piece-got h =
         let t : ltb (length file - p) n ≡ false = grind (arith, tells) in
         rw (left-at, t, drop-drop)
+
+  module _ (s : Setting) (n : ℕ) (e : Steps) (size : s .size ≡ length file) (payload : s .payload ≡ n) where
+    pub boundary-got : eqb ((n - (length file - p)) % 8) 0 ≡ true → on-boundary s (state (drop p file) e) ≡ got tt (state (drop p file) e)
+    unfolding on-boundary
+    boundary-got h = rw (payload, left-at, h)
+
+    pub boundary-refused : eqb ((n - (length file - p)) % 8) 0 ≡ false → on-boundary s (state (drop p file) e) ≡ refused (because BadContent Record p)
+    unfolding on-boundary
+    boundary-refused h = rw (payload, size, place-at, left-at, h)

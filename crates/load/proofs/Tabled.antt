@@ -5,7 +5,7 @@ use mathlib.Core.List.{List, [], _∷_}
 use Prim.Native.Nat.{ℕ, zero, suc, _+_, _-_, _*_, _/_, _≤_, _<_}
 use native.Mathlib.Omega.{arith}
 use native.Mathlib.Nat.{suc-mul}
-use lib.ListN.{length, take, drop}
+use lib.ListN.{length, take, drop, getD}
 use Rattle.std.specs.declared.option.Option.{Option}
 use Rattle.std.specs.declared.option.Option.the-variants.{Some, None}
 use Rattle.refusal.specs.declared.Reason.the-variants.{BadSymbol, Large}
@@ -79,3 +79,15 @@ module _ (size n m place : ℕ) (os strings x x₁ x₂ x₃ x₄ : List ℕ) (e
 pub table-count : (size : ℕ) (x : List ℕ) (e : Steps) (w : Refusal) → word size Symbols (state x e) ≡ refused w → symbol-table size (state x e) ≡ refused w
 unfolding symbol-table after
 table-count size x e w h = rw h
+
+pub name-in : (strings offsets : List ℕ) (n i : ℕ) → i < n → getD (names-of strings (entries 4 n offsets)) i [] ≡ or-empty (name-at strings (entry 4 i offsets))
+unfolding names-of entries
+name-in strings offsets zero i lt = absurd (omega arith)
+name-in strings offsets (suc n) zero lt = rw (entry-first 4 offsets)
+name-in strings offsets (suc n) (suc i) lt = name-in strings (drop 4 offsets) n i (omega arith) ∙ rw (entry-next 4 i offsets)
+
+pub name-out : (strings offsets : List ℕ) (n i : ℕ) → n ≤ i → getD (names-of strings (entries 4 n offsets)) i [] ≡ []
+unfolding names-of entries
+name-out strings offsets zero i le = refl
+name-out strings offsets (suc n) zero le = absurd (omega arith)
+name-out strings offsets (suc n) (suc i) le = name-out strings (drop 4 offsets) n i (omega arith)

@@ -39,3 +39,7 @@ pub record Filled {A : Type 0} (r : Reader) (b : Store) (m : Setting → Reads A
   pub kept : Kept t
   pub memory : memory-lent t ≡ memory-lent b
   pub came : (c : Setting) → c .size ≡ size-of r → c .uses ≡ in-memory (memory-lent b) → Came (m c) (rest-of r) (standing b) answer (rest-of s) (standing t)
+
+-- the records of a payload of this size
+abbrev pub with-payload : ℕ → Setting → Setting
+with-payload n c = record { size = c .size; uses = c .uses; table = c .table; payload = n }

@@ -3,8 +3,8 @@ ghost use mathlib.Core.Path.{_≡_};
 ghost use denote.Ref.{now as read};
 ghost use Rattle.refusal.specs.declared.Reason.the-variants.{Large};
 ghost use Rattle.steps.specs.Law.{float-end};
-ghost use Rattle.redbin.specs.Reading.{below, word, any-word};
-ghost use Rattle.load.specs.Ran.{Did, as-read, piece};
+ghost use Rattle.redbin.specs.Reading.{Setting, below, word, any-word, on-boundary};
+ghost use Rattle.load.specs.Ran.{Ran, Did, as-read, piece, rest-of, size-of};
 use crate::reader::Reader;
 use refusal::Part;
 use refusal::Reason;
@@ -119,5 +119,22 @@ impl<'f> Reader<'f> {
         }
         self.place = place + count;
         Ok(&file[place..place + count])
+    }
+
+    // The next byte has to stand at a multiple of 8 from the first byte of a payload of this size.
+    pub fn on_boundary(&self, payload: u32) -> Result<(), Refusal>
+        ensures { λ r. ⌜ ((c : Setting) → c .size ≡ size-of (now (self .entry)) → c .payload ≡ payload → Ran (on-boundary c) (rest-of (now (self .entry))) r (rest-of (now (self .entry)))) ⌝ }
+    {
+        let place = self.place;
+        let left = self.file.len() - place;
+        if (payload as usize).saturating_sub(left) % 8 == 0 {
+            Ok(())
+        } else {
+            Err(Refusal {
+                reason: Reason::BadContent,
+                part: Part::Record,
+                place,
+            })
+        }
     }
 }
