@@ -78,7 +78,7 @@ impl<'a> Store<'a> {
     }
 
     // Whether the memories have room for one more value with so many codepoints and name bytes.
-    fn has_room(&self, codepoints: usize, names: usize) -> bool
+    pub fn has_room(&self, codepoints: usize, names: usize) -> bool
         requires { ⌜ Kept (now self) ⌝ }
         ensures { λ r. ⌜ r ≡ has-room (memory-lent (now (self .entry))) (standing (now (self .entry))) (so-much 1 codepoints names) ⌝ }
     {
