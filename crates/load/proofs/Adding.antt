@@ -2,21 +2,25 @@
 use mathlib.Core.Path.{_≡_, refl, sym, ap, _∙_}
 use mathlib.Core.Bool.{Bool, true, false}
 use mathlib.Core.List.{List, _∷_}
-use Prim.Native.Nat.{ℕ, _<_}
+use Prim.Native.Nat.{ℕ, _%_, _<_}
 use native.Mathlib.Omega.{arith}
-use lib.Dec.{ltb}
+use lib.Dec.{eqb, ltb}
 use lib.ListN.{length}
 use Rattle.std.proofs.shelf.Ways.{tells}
 use Rattle.std.specs.declared.option.Option.{Option}
 use Rattle.std.specs.declared.option.Option.the-variants.{Some, None}
 use Rattle.refusal.specs.declared.Reason.{Reason}
-use Rattle.refusal.specs.declared.Reason.the-variants.{NoMemory, BadName, NotAllowed, TooDeep}
-use Rattle.refusal.specs.declared.Part.the-variants.{Record}
-use Rattle.steps.specs.Steps.{Steps, Tag, Begun, Content, put, begin}
+use Rattle.refusal.specs.declared.Reason.the-variants.{NoMemory, BadName, NotAllowed, TooDeep, BadType, BadBits}
+use Rattle.refusal.specs.declared.Refusal.{Refusal}
+use Rattle.refusal.specs.declared.Part.the-variants.{Record, Reference}
+use Rattle.steps.specs.declared.parts.Node.{Node}
+use Rattle.steps.specs.declared.parts.Share.{Share}
+use Rattle.steps.specs.Steps.{Steps, Tag, Begun, Content, put, share, begin}
 use Rattle.steps.specs.Outline.{values, opened}
 use Rattle.steps.specs.Law.{Memory, need, unless, has-room, refusal, name-ok, begun-ok, content-ok, deepest}
-use Rattle.redbin.specs.Reading.{Setting, got, refused, because, after, room, push, add, in-memory}
+use Rattle.redbin.specs.Reading.{Setting, got, refused, because, after, room, push, add, in-memory, here, any-word, refuse-when}
 use Rattle.load.specs.Ran.{state}
+use Rattle.load.specs.Shared.{shared, reference}
 
 -- a step that is refused for no other reason is refused for memory
 only-room : (a b c d : Bool) → a ≡ true → b ≡ true → c ≡ true → (o : Option Reason) → unless a BadName (unless b NotAllowed (unless c TooDeep (unless d NoMemory None))) ≡ o → unless d NoMemory None ≡ o
@@ -53,3 +57,31 @@ module _ (c : Setting) (m : Memory) (uses : c .uses ≡ in-memory m) (bytes : Li
   pub add-refused : has-room m e (need (l .name) (put v)) ≡ false → add c place l v (state bytes e) ≡ refused (because NoMemory Record place)
   unfolding room push after
   add-refused h = rw (uses, h)
+
+module _ (c : Setting) (m : Memory) (uses : c .uses ≡ in-memory m) (bytes : List ℕ) (e : Steps) (place : ℕ) (l : Tag) (s : Share) (t : Node) where
+  pub shared-got : has-room m e (need (l .name) (share s t)) ≡ true → shared c place l s t (state bytes e) ≡ got tt (state bytes (begin l (share s t) ∷ e))
+  unfolding room push after
+  shared-got h = rw (uses, h)
+
+  pub shared-refused : has-room m e (need (l .name) (share s t)) ≡ false → shared c place l s t (state bytes e) ≡ refused (because NoMemory Record place)
+  unfolding room push after
+  shared-refused h = rw (uses, h)
+
+-- the header of a reference
+module _ (size place h : ℕ) (x y : List ℕ) (e : Steps) (at : here size (state x e) ≡ got place (state x e)) where
+  pub reference-short : (w : Refusal) → any-word size Reference (state x e) ≡ refused w → reference size (state x e) ≡ refused w
+  unfolding after
+  reference-short w k = rw (at, k)
+
+  module _ (word : any-word size Reference (state x e) ≡ got h (state y e)) where
+    pub reference-type-bad : eqb (h % 256) 255 ≡ false → reference size (state x e) ≡ refused (because BadType Reference place)
+    unfolding after refuse-when
+    reference-type-bad t = rw (at, word, t)
+
+    pub reference-bits-bad : eqb (h % 256) 255 ≡ true → eqb h 255 ≡ false → reference size (state x e) ≡ refused (because BadBits Reference place)
+    unfolding after refuse-when
+    reference-bits-bad t b = rw (at, word, t, b)
+
+    pub reference-got : eqb (h % 256) 255 ≡ true → eqb h 255 ≡ true → reference size (state x e) ≡ got place (state y e)
+    unfolding after refuse-when
+    reference-got t b = rw (at, word, t, b)

@@ -8,3 +8,4 @@ pub mod Series
 pub mod Starts
 pub mod Tabled
 pub mod Then
+pub mod Walked

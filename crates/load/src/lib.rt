@@ -1,6 +1,7 @@
 // Files read into a store.
 pub mod add;
 pub mod header;
+pub mod paths;
 pub mod reader;
 pub mod runs;
 pub mod scalars;

@@ -4,6 +4,7 @@ ghost use denote.Ref.{now};
 
 mod fields;
 mod headings;
+mod references;
 mod runs;
 mod start;
 mod symbols;

@@ -49,7 +49,7 @@ impl<'a> Store<'a> {
     }
 
     // Whether a share of this family may have this target.
-    fn suits(&self, target: Node, family: Family) -> bool
+    pub fn suits(&self, target: Node, family: Family) -> bool
         requires { ⌜ Kept (now self) ⌝ }
         ensures { λ r. ⌜ r ≡ suits (values (standing (now (self .entry)))) target family ⌝ }
     {
