@@ -5,6 +5,7 @@ pub mod Filling
 pub mod Headings
 pub mod Names
 pub mod Series
+pub mod Sharing
 pub mod Starts
 pub mod Tabled
 pub mod Then

@@ -5,5 +5,6 @@ pub mod paths;
 pub mod reader;
 pub mod runs;
 pub mod scalars;
+pub mod shares;
 pub mod symbols;
 pub mod unit;
