@@ -10,16 +10,18 @@ use Rattle.std.proofs.shelf.Ways.{tells}
 use Rattle.std.specs.declared.option.Option.{Option}
 use Rattle.std.specs.declared.option.Option.the-variants.{Some, None}
 use Rattle.refusal.specs.declared.Reason.{Reason}
-use Rattle.refusal.specs.declared.Reason.the-variants.{NoMemory, BadName, NotAllowed, TooDeep, BadType, BadBits}
+use Rattle.refusal.specs.declared.Reason.the-variants.{NoMemory, BadName, NotAllowed, TooDeep, BadType, BadBits, NothingThere}
 use Rattle.refusal.specs.declared.Refusal.{Refusal}
 use Rattle.refusal.specs.declared.Part.the-variants.{Record, Reference}
 use Rattle.steps.specs.declared.parts.Node.{Node}
 use Rattle.steps.specs.declared.parts.Share.{Share}
-use Rattle.steps.specs.Steps.{Steps, Tag, Begun, Content, put, share, begin}
+use Rattle.steps.specs.Steps.{Steps, Tag, Begun, Content, put, share, open′, begin, close}
 use Rattle.steps.specs.Outline.{values, opened}
 use Rattle.steps.specs.Law.{Memory, need, unless, has-room, refusal, name-ok, begun-ok, content-ok, deepest}
 use Rattle.redbin.specs.Reading.{Setting, got, refused, because, after, room, push, add, in-memory, here, any-word, refuse-when}
 use Rattle.load.specs.Ran.{state}
+use Rattle.steps.specs.declared.parts.Holder.{Holder}
+use Rattle.load.specs.Holders.{opened-with}
 use Rattle.load.specs.Shared.{shared, reference}
 
 -- a step that is refused for no other reason is refused for memory
@@ -66,6 +68,38 @@ module _ (c : Setting) (m : Memory) (uses : c .uses ≡ in-memory m) (bytes : Li
   pub shared-refused : has-room m e (need (l .name) (share s t)) ≡ false → shared c place l s t (state bytes e) ≡ refused (because NoMemory Record place)
   unfolding room push after
   shared-refused h = rw (uses, h)
+
+module _ (c : Setting) (m : Memory) (uses : c .uses ≡ in-memory m) (bytes : List ℕ) (e : Steps) (place : ℕ) where
+  module _ (l : Tag) (h : Holder) where
+    pub opened-got : has-room m e (need (l .name) (open′ h)) ≡ true → opened-with c place l h (state bytes e) ≡ got tt (state bytes (begin l (open′ h) ∷ e))
+    unfolding room push after
+    opened-got k = rw (uses, k)
+
+    pub opened-refused : has-room m e (need (l .name) (open′ h)) ≡ false → opened-with c place l h (state bytes e) ≡ refused (because NoMemory Record place)
+    unfolding room push after
+    opened-refused k = rw (uses, k)
+
+  pub room-got : (n : Memory) → has-room m e n ≡ true → room c place n (state bytes e) ≡ got tt (state bytes e)
+  unfolding room
+  room-got n k = rw (uses, k)
+
+  pub room-refused : (n : Memory) → has-room m e n ≡ false → room c place n (state bytes e) ≡ refused (because NoMemory Record place)
+  unfolding room
+  room-refused n k = rw (uses, k)
+
+  pub close-got : push (c .uses) close (state bytes e) ≡ got tt (state bytes (close ∷ e))
+  unfolding push
+  close-got = rw uses
+
+-- something is open to close
+pub never-refused : (m : Memory) (e : Steps) (why : Reason) → 0 < length (opened e) → refusal m e close ≡ Some why → ⊥
+never-refused m e why lt h =
+    let t : ltb 0 (length (opened e)) ≡ true = grind (arith, tells) in
+    go (ltb 0 (length (opened e))) t h
+  where
+    go : (b : Bool) → b ≡ true → unless b NothingThere None ≡ Some why → ⊥
+    go true t k = let z : _≡_ {A = ℕ} 0 1 = cc in omega arith
+    go false t k = let z : _≡_ {A = ℕ} 0 1 = cc in omega arith
 
 -- the header of a reference
 module _ (size place h : ℕ) (x y : List ℕ) (e : Steps) (at : here size (state x e) ≡ got place (state x e)) where

@@ -1,5 +1,6 @@
 pub mod Announced
 pub mod Filled
+pub mod Holders
 pub mod Names
 pub mod Paths
 pub mod Ran

@@ -1,6 +1,7 @@
 // Files read into a store.
 pub mod add;
 pub mod header;
+pub mod holders;
 pub mod paths;
 pub mod reader;
 pub mod runs;
