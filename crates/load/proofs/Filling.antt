@@ -2,6 +2,8 @@
 use mathlib.Core.Path.{_≡_, refl, sym, ap, _∙_}
 use mathlib.Core.List.{List}
 use Prim.Native.Nat.{ℕ}
+use denote.Ref.{now}
+use lib.ListN.{length}
 use Rattle.std.specs.declared.result.Result.{Result}
 use Rattle.std.specs.declared.result.Result.the-variants.{Ok, Err}
 use Rattle.refusal.specs.declared.Refusal.{Refusal}
@@ -25,4 +27,14 @@ module _ {A : Type 0} (r s : Reader) (b : Store) (field : ℕ → Reads A) (k : 
     kept = g .kept;
     memory = g .memory;
     came = λ c q u. came-then (field (c .size)) (k c) a (rest-of r) (rest-of s) (rest-of s) (standing b) (standing b) (standing t) answer (rw q (d .ran (standing b))) (g .came c (rest-of s) u);
+  }
+
+  pub field-fill : (q : Reader) (t : Store) (a : A) (answer : Result (Unit {0}) Refusal) → Did r field (Ok a) s → Filled s b (λ c. k c a) answer q t → Filled r b (λ c. field (c .size) >>= k c) answer q t
+  field-fill q t a answer d g = record {
+    file = g .file ∙ d .file;
+    kept = g .kept;
+    memory = g .memory;
+    came = λ c e u.
+        let f : c .size ≡ size-of s = e ∙ ap (λ (x : _). length (now x)) (sym (d .file)) in
+        came-then (field (c .size)) (k c) a (rest-of r) (rest-of s) (rest-of q) (standing b) (standing b) (standing t) answer (rw e (d .ran (standing b))) (g .came c f u);
   }

@@ -19,8 +19,8 @@ use Rattle.redbin.specs.Reading.{got, refused, because, after, enough, below, s
 use Rattle.load.proofs.Fields.{left-at, place-at}
 use Rattle.load.specs.Ran.{state}
 use Rattle.load.specs.Runs.{width, entry, entries}
-use Rattle.load.specs.declared.unit.Unit.{Unit as Width}
-use Rattle.load.specs.declared.unit.Unit.the-variants.{One, Two, Four}
+use Rattle.load.specs.declared.unit.Width.{Width}
+use Rattle.load.specs.declared.unit.Width.the-variants.{One, Two, Four}
 
 -- the number at an index lies inside a run
 pub inside : (unit : Width) (p i n m : ℕ) → i < n → p + n * width unit ≤ m → p + i * width unit + width unit ≤ m

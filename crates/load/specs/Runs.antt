@@ -5,8 +5,8 @@ use lib.ListN.{take, drop}
 use Rattle.std.specs.declared.option.Option.{Option}
 use Rattle.std.specs.declared.option.Option.the-variants.{Some, None}
 use Rattle.redbin.specs.Bytes.{number}
-use Rattle.load.specs.declared.unit.Unit.{Unit as Width}
-use Rattle.load.specs.declared.unit.Unit.the-variants.{One, Two, Four}
+use Rattle.load.specs.declared.unit.Width.{Width}
+use Rattle.load.specs.declared.unit.Width.the-variants.{One, Two, Four}
 
 abbrev pub width : Width → ℕ
 width One = 1

@@ -9,7 +9,7 @@ ghost use Rattle.document.specs.Standing.{standing, Kept};
 ghost use Rattle.load.specs.Paths.{held};
 use crate::runs::number_at;
 use crate::runs::span;
-use crate::unit::Unit;
+use crate::unit::Width;
 use document::store::Store;
 use steps::parts::Family;
 use steps::parts::Item;
@@ -75,7 +75,7 @@ pub fn follow(store: &Store<'_>, path: &[u8], n: u32) -> Option<Node>
 {
     let mut node = Node::Root;
     for i in 0..n {
-        let offset = number_at(path, span(Unit::Four, i), Unit::Four);
+        let offset = number_at(path, span(Width::Four, i), Width::Four);
         match inner_at(store, node, offset) {
             None => return None,
             Some(number) => node = through(store, number),

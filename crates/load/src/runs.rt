@@ -4,33 +4,33 @@ ghost use Prim.Native.Nat.{_+_, _*_, _≤_};
 ghost use lib.ListN.{length, take, drop};
 ghost use Rattle.redbin.specs.Bytes.{number};
 ghost use Rattle.load.specs.Runs.{width, Sought};
-use crate::unit::Unit;
+use crate::unit::Width;
 
 // How many bytes so many numbers have.
-pub fn span(unit: Unit, n: u32) -> usize
+pub fn span(unit: Width, n: u32) -> usize
     ensures { λ r. ⌜ r ≡ n * width unit ⌝ }
 {
     match unit {
-        Unit::One => n as usize,
-        Unit::Two => n as usize * 2,
-        Unit::Four => n as usize * 4,
+        Width::One => n as usize,
+        Width::Two => n as usize * 2,
+        Width::Four => n as usize * 4,
     }
 }
 
 // The number at a place in some bytes.
-pub fn number_at(bytes: &[u8], at: usize, unit: Unit) -> u32
+pub fn number_at(bytes: &[u8], at: usize, unit: Width) -> u32
     requires { ⌜ at + width unit ≤ length (now bytes) ⌝ }
     ensures { λ r. ⌜ r ≡ number (take (width unit) (drop at (now (bytes .entry)))) ⌝ }
 {
     match unit {
-        Unit::One => bytes[at] as u32,
-        Unit::Two => bytes[at + 1] as u32 * 0x100 + bytes[at] as u32,
-        Unit::Four => u32::from_le_bytes([bytes[at], bytes[at + 1], bytes[at + 2], bytes[at + 3]]),
+        Width::One => bytes[at] as u32,
+        Width::Two => bytes[at + 1] as u32 * 0x100 + bytes[at] as u32,
+        Width::Four => u32::from_le_bytes([bytes[at], bytes[at + 1], bytes[at + 2], bytes[at + 3]]),
     }
 }
 
 // Of the `n` numbers from a place on, the index of the first that is not below a limit.
-pub fn first_bad(bytes: &[u8], place: usize, unit: Unit, end: u64, n: u32) -> Option<u32>
+pub fn first_bad(bytes: &[u8], place: usize, unit: Width, end: u64, n: u32) -> Option<u32>
     requires { ⌜ place + n * width unit ≤ length (now bytes) ⌝ }
     ensures { λ r. ⌜ Sought (width unit) end n (drop place (now (bytes .entry))) r ⌝ }
 {

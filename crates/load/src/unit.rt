@@ -1,6 +1,6 @@
 // How many bytes each entry of a run has.
 #[derive(Clone, Copy)]
-pub enum Unit {
+pub enum Width {
     One,
     Two,
     Four,

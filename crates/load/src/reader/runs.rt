@@ -10,7 +10,7 @@ ghost use Rattle.load.specs.Runs.{width, entries};
 use crate::reader::Reader;
 use crate::runs::first_bad;
 use crate::runs::span;
-use crate::unit::Unit;
+use crate::unit::Width;
 use refusal::Part;
 use refusal::Reason;
 use refusal::Refusal;
@@ -20,7 +20,7 @@ impl<'f> Reader<'f> {
     pub fn run(
         &mut self,
         part: Part,
-        unit: Unit,
+        unit: Width,
         end: u64,
         why: Reason,
         n: u32,

@@ -6,7 +6,7 @@ use crate::reader::Reader;
 use crate::runs::span;
 use crate::symbols::Symbols;
 use crate::symbols::table::first_unnamed;
-use crate::unit::Unit;
+use crate::unit::Width;
 use refusal::Part;
 use refusal::Reason;
 use refusal::Refusal;
@@ -22,14 +22,14 @@ impl<'f> Reader<'f> {
         let n = self.word(part)?;
         let size = self.word(part)?;
         let place = self.place;
-        let offsets = self.run(part, Unit::Four, WORD_END, Reason::Large, n)?;
+        let offsets = self.run(part, Width::Four, WORD_END, Reason::Large, n)?;
         let strings = self.bytes(part, size as usize)?;
         match first_unnamed(offsets, strings, n) {
             None => Ok(Symbols { offsets, strings }),
             Some(i) => Err(Refusal {
                 reason: Reason::BadSymbol,
                 part,
-                place: place + span(Unit::Four, i),
+                place: place + span(Width::Four, i),
             }),
         }
     }

@@ -9,7 +9,7 @@ use crate::runs::number_at;
 use crate::runs::span;
 use crate::symbols::Symbols;
 use crate::symbols::name_at;
-use crate::unit::Unit;
+use crate::unit::Width;
 
 // Of `n` offsets, the index of the first that leads to no name in the strings.
 pub fn first_unnamed(offsets: &[u8], strings: &[u8], n: u32) -> Option<u32>
@@ -17,7 +17,7 @@ pub fn first_unnamed(offsets: &[u8], strings: &[u8], n: u32) -> Option<u32>
     ensures { λ r. ⌜ Unnamed (now (strings .entry)) (now (offsets .entry)) n r ⌝ }
 {
     for i in 0..n {
-        let offset = number_at(offsets, span(Unit::Four, i), Unit::Four);
+        let offset = number_at(offsets, span(Width::Four, i), Width::Four);
         if name_at(strings, offset).is_none() {
             return Some(i);
         }
@@ -33,7 +33,7 @@ impl<'f> Symbols<'f> {
         if index as usize >= self.offsets.len() / 4 {
             return &[];
         }
-        let offset = number_at(self.offsets, span(Unit::Four, index), Unit::Four);
+        let offset = number_at(self.offsets, span(Width::Four, index), Width::Four);
         match name_at(self.strings, offset) {
             Some(name) => name,
             None => &[],
