@@ -1,6 +1,6 @@
 -- What adding a value comes to.
 use mathlib.Core.Path.{_≡_, refl, sym, ap, _∙_}
-use mathlib.Core.Bool.{Bool, true, false}
+use mathlib.Core.Bool.{Bool, true, false, _||_}
 use mathlib.Core.List.{List, _∷_}
 use Prim.Native.Nat.{ℕ, _%_, _<_}
 use native.Mathlib.Omega.{arith}
@@ -21,7 +21,7 @@ use Rattle.steps.specs.Law.{Memory, need, unless, has-room, refusal, name-ok, b
 use Rattle.redbin.specs.Reading.{Setting, got, refused, because, after, room, push, add, in-memory, here, any-word, refuse-when}
 use Rattle.load.specs.Ran.{state}
 use Rattle.steps.specs.declared.parts.Holder.{Holder}
-use Rattle.load.specs.Holders.{opened-with}
+use Rattle.load.specs.Holders.{opened-with, context}
 use Rattle.load.specs.Shared.{shared, reference}
 
 -- a step that is refused for no other reason is refused for memory
@@ -119,3 +119,25 @@ module _ (size place h : ℕ) (x y : List ℕ) (e : Steps) (at : here size (stat
     pub reference-got : eqb (h % 256) 255 ≡ true → eqb h 255 ≡ true → reference size (state x e) ≡ got place (state y e)
     unfolding after refuse-when
     reference-got t b = rw (at, word, t, b)
+
+-- the header of a context
+module _ (size place h : ℕ) (x y : List ℕ) (e : Steps) (at : here size (state x e) ≡ got place (state x e)) where
+  abbrev pub fine : Bool
+  fine = eqb h 134217742 || eqb h 402653198
+
+  pub context-short : (w : Refusal) → any-word size Record (state x e) ≡ refused w → context size (state x e) ≡ refused w
+  unfolding after
+  context-short w k = rw (at, k)
+
+  module _ (word : any-word size Record (state x e) ≡ got h (state y e)) where
+    pub context-type-bad : eqb (h % 256) 14 ≡ false → context size (state x e) ≡ refused (because BadType Record place)
+    unfolding after refuse-when
+    context-type-bad t = rw (at, word, t)
+
+    pub context-bits-bad : eqb (h % 256) 14 ≡ true → fine ≡ false → context size (state x e) ≡ refused (because BadBits Record place)
+    unfolding after refuse-when
+    context-bits-bad t b = rw (at, word, t, b)
+
+    pub context-got : eqb (h % 256) 14 ≡ true → fine ≡ true → context size (state x e) ≡ got (eqb h 402653198) (state y e)
+    unfolding after refuse-when
+    context-got t b = rw (at, word, t, b)
