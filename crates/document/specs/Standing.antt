@@ -1,6 +1,6 @@
 -- The steps that stand in a store, and what a store keeps.
 use mathlib.Core.Path.{_≡_}
-use mathlib.Core.List.{_∷_}
+use mathlib.Core.List.{[], _∷_}
 use Prim.Native.Nat.{ℕ}
 use Rattle.std.specs.declared.result.Result.{Result}
 use Rattle.std.specs.declared.result.Result.the-variants.{Ok, Err}
@@ -50,6 +50,12 @@ pub record Shrunk (s t : Store) : Type 0 where
   pub memory : memory-lent t ≡ memory-lent s
   pub step : Step
   pub told : standing s ≡ step ∷ standing t
+
+-- without any step a store becomes another
+pub record Emptied (s t : Store) : Type 0 where
+  pub kept : Kept t
+  pub memory : memory-lent t ≡ memory-lent s
+  pub told : standing t ≡ []
 
 -- a refused call leaves the store as it was
 abbrev pub Still : {X : Type 0} → Result X Reason → Store → Store → Type 0

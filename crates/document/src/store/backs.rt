@@ -4,7 +4,7 @@ ghost use Prim.Native.Nat.{_+_, _<_};
 ghost use lib.ListN.{length};
 ghost use Rattle.steps.specs.Items.{items};
 ghost use Rattle.steps.specs.Build.{cell-at};
-ghost use Rattle.document.specs.Standing.{Kept, Shrunk, TookBack};
+ghost use Rattle.document.specs.Standing.{Kept, Shrunk, TookBack, Emptied};
 use crate::store::Store;
 use refusal::Reason;
 use steps::cells::climb;
@@ -14,6 +14,7 @@ use steps::cells::drop_close_in;
 use steps::cells::inside_of;
 use steps::cells::lower_in;
 use steps::parts::Cell;
+use steps::parts::Node;
 
 impl<'a> Store<'a> {
     // Takes back the newest step.
@@ -65,5 +66,17 @@ impl<'a> Store<'a> {
         self.names.cut(cell.name.start);
         self.innermost = cell.holder;
         self.depth = depth_without(cell.sort, depth);
+    }
+
+    // Takes back all steps.
+    pub fn clear(&mut self)
+        requires { ⌜ Kept (now self) ⌝ }
+        ensures { λ _. ⌜ Emptied (now (self .entry)) (now (self .exit)) ⌝ }
+    {
+        self.cells.cut(0);
+        self.codepoints.cut(0);
+        self.names.cut(0);
+        self.innermost = Node::Root;
+        self.depth = 0;
     }
 }

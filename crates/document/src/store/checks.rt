@@ -49,7 +49,7 @@ impl<'a> Store<'a> {
     }
 
     // Whether a share of this family may have this target.
-    fn suits(&self, target: Node, family: Family) -> bool
+    pub fn suits(&self, target: Node, family: Family) -> bool
         requires { ⌜ Kept (now self) ⌝ }
         ensures { λ r. ⌜ r ≡ suits (values (standing (now (self .entry)))) target family ⌝ }
     {
@@ -78,7 +78,7 @@ impl<'a> Store<'a> {
     }
 
     // Whether the memories have room for one more value with so many codepoints and name bytes.
-    fn has_room(&self, codepoints: usize, names: usize) -> bool
+    pub fn has_room(&self, codepoints: usize, names: usize) -> bool
         requires { ⌜ Kept (now self) ⌝ }
         ensures { λ r. ⌜ r ≡ has-room (memory-lent (now (self .entry))) (standing (now (self .entry))) (so-much 1 codepoints names) ⌝ }
     {

@@ -1,0 +1,12 @@
+pub mod Adding
+pub mod Bools
+pub mod Fields
+pub mod Filling
+pub mod Headings
+pub mod Names
+pub mod Series
+pub mod Sharing
+pub mod Starts
+pub mod Tabled
+pub mod Then
+pub mod Walked
