@@ -1,5 +1,8 @@
 #!/usr/bin/env python3
-"""An independent model of drafts and of the file format, written from docs/ and sharing no code with the library.
+"""A second model of drafts and of the file format. It shares no code with the library.
+
+Its author had read the library's definitions when writing it, so it finds slips in code and in definitions, and not
+every rule that was misread: such a rule may be wrong here in the same way.
 
 It runs scripts of the program `edit` and answers each command as `edit` should. `tools/compare.py` holds the two
 against each other on random scripts.
