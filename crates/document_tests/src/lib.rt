@@ -1,3 +1,5 @@
 // Tests of the crate `document`.
+#![tactic(auto)]
+
 #[cfg(test)]
 mod tests;

@@ -1,4 +1,6 @@
 // Runs a script of calls on a draft, and answers each with one line.
+#![tactic(auto)]
+
 use command::{Begun, Command, FULL, Kind, Sizes, read_command, read_memory, words_of};
 use document::store::Memories;
 use gillsieve::draft::Draft;

@@ -1,4 +1,6 @@
 // Listings of purge delays: what every kind of listing promises, and the two kinds that are supplied.
+#![tactic(auto)]
+
 ghost use Rattle.std.specs.Prelude.{◌≡◌, ℕ, ◌≤◌, Bool, true, List, map, OnErr, OnOk};
 ghost use Rattle.refusal.specs.Numbers.{refused_with};
 ghost use Rattle.listing.specs.Pairs.{Pair, pair, good};

@@ -1,4 +1,6 @@
 // Examples of what the two listings take, refuse and write.
+#![tactic(auto)]
+
 #[cfg(test)]
 mod tests {
     use listing::Listing;

@@ -1,4 +1,6 @@
 // Files read into a store.
+#![tactic(auto)]
+
 pub mod add;
 pub mod encoded;
 pub mod header;

@@ -1,4 +1,6 @@
 // Files loaded into a store.
+#![tactic(auto)]
+
 pub mod depth;
 pub mod file;
 pub mod levels;

@@ -1,4 +1,6 @@
 // Turns a list of purge delays into the lines of the C header and the lines of the manual's table.
+#![tactic(auto)]
+
 use anyhow::anyhow;
 use delays::{Fault, MOST, read_entries};
 use listing::lines::{HeaderListing, TableListing};

@@ -1,4 +1,6 @@
 // The file format of documents: what a file means, and the one file that stands for given steps.
+#![tactic(auto)]
+
 ghost use Rattle.redbin.specs.Promises.{CanonicalReadsBack, CanonicalTellsApart, LoadIsLawful, MemoryDecidesRoomAlone, LoadAcceptsWhatFits, LoadGivesFileSteps, PathsLead};
 ghost use Rattle.redbin.specs.Examples.{Examples};
 

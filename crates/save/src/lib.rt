@@ -1,4 +1,6 @@
 // Saving: the canonical file of a document that stands in a store.
+#![tactic(auto)]
+
 ghost use Rattle.std.specs.Prelude.{◌≡◌, ◌≤◌, length};
 ghost use Rattle.document.specs.Standing.{standing, Kept};
 ghost use Rattle.redbin.specs.Layout.{largest_file};
