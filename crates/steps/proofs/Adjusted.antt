@@ -1,5 +1,5 @@
 -- One cell changed in its place.
-use Rattle.std.proofs.Common.{◌≡◌, ℕ, zero, suc, ◌<◌, List, [], ◌∷◌, length, get_or, take, set, sym, refl, ap, ◌∙◌, arith}
+use Rattle.std.proofs.Common.{◌≡◌, ℕ, zero, suc, List, [], ◌∷◌, length, get_or, take, set, sym, refl, ap, ◌∙◌}
 use Rattle.steps.specs.declared.parts.Node.{Node}
 use Rattle.steps.specs.declared.parts.Node.TheVariants.{Root, At}
 use Rattle.steps.specs.declared.parts.Cell.{Cell}

@@ -1,5 +1,5 @@
 -- How many elements of a pile are in use, and how many more fit.
-use Rattle.std.proofs.Common.{◌≡◌, ℕ, ◌+◌, ◌≤◌, min, length, sym, ap, ◌∙◌, subst, arith}
+use Rattle.std.proofs.Common.{◌≡◌, ℕ, ◌+◌, ◌≤◌, length, arith}
 use native.Mathlib.Nat.{min-le_left, min-le_right}
 use Rattle.std.proofs.lemmas.List.{length-take-le}
 use Rattle.steps.specs.declared.pile.Pile.{Pile}

@@ -1,5 +1,5 @@
 -- The values and the steps that cells tell of, once a step is applied.
-use Rattle.std.proofs.Common.{◌≡◌, ℕ, zero, suc, ◌+◌, ◌<◌, ◌≤◌, List, [], ◌∷◌, ◌++◌, length, take, drop, sym, refl, ap, ◌∙◌, add-one, arith}
+use Rattle.std.proofs.Common.{◌≡◌, ℕ, zero, suc, ◌+◌, ◌≤◌, List, [], ◌∷◌, ◌++◌, length, take, drop, sym, refl, ap, ◌∙◌, add-one, arith}
 use Rattle.std.proofs.lemmas.List.{append_assoc, append-nil, take_all, drop_at, take-append-le, drop-append-le, length-drop}
 use Rattle.steps.specs.declared.parts.Node.{Node}
 use Rattle.steps.specs.declared.parts.Node.TheVariants.{Root, At}
@@ -8,7 +8,7 @@ use Rattle.steps.specs.declared.parts.Sort.{Sort}
 use Rattle.steps.specs.declared.parts.Sort.TheVariants.{Nothing, Logic, Char, Integer, Float, Text, Open, Share}
 use Rattle.steps.specs.declared.parts.Cell.{Cell}
 use Rattle.steps.specs.Adjust.{adjust}
-use Rattle.steps.specs.Steps.{none, logic, char, integer, float, text, Begun, put, open', share, close, Steps}
+use Rattle.steps.specs.Steps.{none, logic, char, integer, float, text, Begun, put, open', share, close}
 use Rattle.steps.specs.Outline.{Entry}
 use Rattle.steps.specs.Law.{codepoints_of}
 use Rattle.steps.specs.Build.{more, more_in, shut, adjust_at, sort_of, part, begun_of, entry_of, telling, told, tell, Under}

@@ -1,5 +1,4 @@
 -- What callers give, as steps have it.
-use Rattle.std.specs.Prelude.{ℕ, Bool, true, false}
 use Rattle.steps.specs.declared.parts.Label.{Label}
 use Rattle.steps.specs.declared.parts.Value.{Value}
 use Rattle.steps.specs.declared.parts.Value.TheVariants.{Nothing, Logic, Char, Integer, Float, Text}

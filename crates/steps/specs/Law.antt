@@ -1,5 +1,5 @@
 -- Which steps are allowed: the limits, and for which reason a step is refused.
-use Rattle.std.specs.Prelude.{◌≡◌, ℕ, ◌+◌, min, Bool, true, false, cond, ◌&&◌, List, [], ◌∷◌, length, ℤ, pos, negsuc, Some, None, Ok, Err, Option, Result, ◌==◌, nat_le, nat_lt}
+use Rattle.std.specs.Prelude.{◌≡◌, ℕ, ◌+◌, min, Bool, true, false, cond, ◌&&◌, List, [], ◌∷◌, length, pos, negsuc, Some, None, Ok, Err, Option, Result, ◌==◌, nat_le, nat_lt}
 use Rattle.refusal.specs.declared.Reason.{Reason}
 use Rattle.refusal.specs.declared.Reason.TheVariants.{TooDeep, NoMemory, NothingThere, BadName, NotAllowed}
 use Rattle.steps.specs.declared.parts.Holder.{Holder}
@@ -7,7 +7,7 @@ use Rattle.steps.specs.declared.parts.Holder.TheVariants.{List as OfList, Object
 use Rattle.steps.specs.declared.parts.Share.{Share}
 use Rattle.steps.specs.declared.parts.Share.TheVariants.{List as ShareList, Text as ShareText, Object as ShareObject}
 use Rattle.steps.specs.Utf8.{lawful_name}
-use Rattle.steps.specs.Steps.{Name, Tag, Content, none, logic, char, integer, float, text, Begun, put, open', share, Step, begin, close, Steps}
+use Rattle.steps.specs.Steps.{Name, Content, none, logic, char, integer, float, text, Begun, put, open', share, Step, begin, close, Steps}
 use Rattle.steps.specs.Outline.{Entry, Opened, values, opened, in_object, suits, share_family}
 
 -- codepoints stop here

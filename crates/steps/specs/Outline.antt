@@ -9,7 +9,7 @@ use Rattle.steps.specs.declared.parts.Holder.{Holder}
 use Rattle.steps.specs.declared.parts.Holder.TheVariants.{List as OfList, Object as OfObject}
 use Rattle.steps.specs.declared.parts.Share.{Share}
 use Rattle.steps.specs.declared.parts.Share.TheVariants.{List as ShareList, Text as ShareText, Object as ShareObject}
-use Rattle.steps.specs.Steps.{Name, Tag, Content, none, logic, char, integer, float, text, Begun, put, open', share, begin, close, Steps}
+use Rattle.steps.specs.Steps.{Name, Tag, none, logic, char, integer, float, text, Begun, put, open', share, begin, close, Steps}
 
 -- a value that was begun, and what holds it
 pub record Entry : Type 0 where

@@ -6,4 +6,4 @@ pub returns-in-None : goal.returns-in-None
 returns-in-None c = absurd (root_there _ _ (ap Some (sym c.in-Root.is) ∙ c.in-Some.ensures) c.in-None.ensures)
 
 pub returns-in-Some-value : goal.returns-in-Some-value
-returns-in-Some-value c = ap not c.opens-object.ensures ∙ root_offends _ _ _ (ap Some (sym c.in-Root.is) ∙ c.in-Some.ensures) c.in-Some-value.ensures
+returns-in-Some-value c = ap not c.opens_object.ensures ∙ root_offends _ _ _ (ap Some (sym c.in-Root.is) ∙ c.in-Some.ensures) c.in-Some-value.ensures

@@ -5,16 +5,16 @@ use Rattle.listing.specs.Pairs.{pair}
 use Rattle.listing.proofs.Givings.{given_next, given_all, given_err}
 use Rattle.listing.proofs.give_all.Goals as goal
 
-pub returns-in-err-add : goal.returns-in-err-add
-returns-in-err-add g c =
+pub returns-in_err-add : goal.returns-in_err-add
+returns-in_err-add g c =
     let q = err_from_is_err_and c.from-residual.result c.from-residual.ensures.1 in
     let l = g.L.Listing in
-    rw (q.1, q.2) (given_err l.meaning l.holds l.leaves (λ e. pair e.name.now e.delay) c.args.entries.now (Unit {0}) c.loop-e.e-index _ _ _ _ _ _ c.loop-e-test.true (ap (pair _) (to_z-of_z w32 _ (search rules))) c.loop-e.invariant c.in-err-add.ensures.same c.in-err-add.ensures.answer)
+    rw (q.1, q.2) (given_err l.meaning l.holds l.leaves (λ e. pair e.name.now e.delay) c.args.entries.now (Unit {0}) c.loop-e.e-index _ _ _ _ _ _ c.loop-e-test.true (ap (pair _) (to_z-of_z w32 _ (search rules))) c.loop-e.invariant c.in_err-add.ensures.same c.in_err-add.ensures.answer)
 
 pub loop-e-preserved : goal.loop-e-preserved
 loop-e-preserved g c =
     let l = g.L.Listing in
-    given_next l.meaning l.holds l.leaves (λ e. pair e.name.now e.delay) c.args.entries.now c.loop-e.e-index _ _ _ _ _ c.loop-e-test.true (ap (pair _) (to_z-of_z w32 _ (search rules))) c.loop-e.invariant c.in-ok-add.ensures.added
+    given_next l.meaning l.holds l.leaves (λ e. pair e.name.now e.delay) c.args.entries.now c.loop-e.e-index _ _ _ _ _ c.loop-e-test.true (ap (pair _) (to_z-of_z w32 _ (search rules))) c.loop-e.invariant c.in_ok-add.ensures.added
 
 pub returns : goal.returns
 returns g c =

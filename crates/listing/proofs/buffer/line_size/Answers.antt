@@ -9,4 +9,4 @@ pub returns : goal.returns
 returns g c =
     let f = g.F.LineForm.form in
     let h = ap length c.head.ensures in
-    omega (arith, length_line f (pair c.args.name.now c.args.delay), c.delay-size.ensures.size, ap (λ z. length (delay_text f z)) (to_z-of_z w32 c.args.delay c.ranges.delay))
+    omega (arith, length_line f (pair c.args.name.now c.args.delay), c.delay_size.ensures.size, ap (λ z. length (delay_text f z)) (to_z-of_z w32 c.args.delay c.ranges.delay))

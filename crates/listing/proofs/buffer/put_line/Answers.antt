@@ -16,13 +16,13 @@ put-gap-requires g c = omega (arith, length_line g.F.LineForm.form (pair c.args.
 pub put-timed-requires : goal.put-timed-requires
 put-timed-requires g c = omega (arith, length_line g.F.LineForm.form (pair c.args.name.now c.args.delay), ap length c.head.ensures)
 
-pub put-delay-end-requires : goal.put-delay-end-requires
-put-delay-end-requires g c =
+pub put_delay-end-requires : goal.put_delay-end-requires
+put_delay-end-requires g c =
     let z = to_z-of_z w32 c.args.delay c.ranges.delay in
     omega (arith, length_line g.F.LineForm.form (pair c.args.name.now c.args.delay), ap length c.head.ensures, ap (λ x. length (delay_text g.F.LineForm.form x)) z)
 
-pub end-line-requires : goal.end-line-requires
-end-line-requires g c =
+pub end_line-requires : goal.end_line-requires
+end_line-requires g c =
     let z = to_z-of_z w32 c.args.delay c.ranges.delay in
     omega (arith, length_line g.F.LineForm.form (pair c.args.name.now c.args.delay), ap length c.head.ensures, ap (λ x. length (delay_text g.F.LineForm.form x)) z)
 
@@ -41,6 +41,6 @@ returns g c =
     let delay = delay_text f (to_z w32 (of_z w32 c.args.delay)) in
     let u = upto_more o at head name _ _ _ _ (c.put-named.ensures.after, c.put-named.ensures.end) (omega arith) c.put-gap.ensures.after c.put-gap.ensures.end in
     let v = upto_more o at (head ++ name) gap _ _ _ _ u (omega arith) c.put-timed.ensures.after c.put-timed.ensures.end in
-    let w = upto_more o at ((head ++ name) ++ gap) delay _ _ _ _ v (omega arith) c.put-delay-end.ensures.after c.put-delay-end.ensures.end in
-    let x = upto_more o at (((head ++ name) ++ gap) ++ delay) (10 ∷ []) _ _ _ _ w (omega arith) c.end-line.ensures refl in
+    let w = upto_more o at ((head ++ name) ++ gap) delay _ _ _ _ v (omega arith) c.put_delay-end.ensures.after c.put_delay-end.ensures.end in
+    let x = upto_more o at (((head ++ name) ++ gap) ++ delay) (10 ∷ []) _ _ _ _ w (omega arith) c.end_line.ensures refl in
     x.0 ∙ ap (written o at) (simp (append_assoc, c.gap.ensures, c.head.ensures, z))

@@ -9,15 +9,15 @@ last_fails true true x e = sym e
 last_fails true false x e = refl
 last_fails false b x e = refl
 
-pub returns-then-not-is-name-byte : goal.returns-then-not-is-name-byte
-returns-then-not-is-name-byte c =
-    last_fails (within 1 63 (length c.args.name.now)) (not (digit (get_or c.args.name.now 0 0))) _ (sym c.loop-c.invariant ∙ at_drop_more (every name_byte) c.args.name.now c.loop-c.c-index 0 c.loop-c-test.true ∙ ap (λ b. b && every name_byte (drop (c.loop-c.c-index + 1) c.args.name.now)) (sym c.if-not-is-name-byte.ensures))
+pub returns-then-not-is_name_byte : goal.returns-then-not-is_name_byte
+returns-then-not-is_name_byte c =
+    last_fails (within 1 63 (length c.args.name.now)) (not (digit (get_or c.args.name.now 0 0))) _ (sym c.loop-c.invariant ∙ at_drop_more (every name_byte) c.args.name.now c.loop-c.c-index 0 c.loop-c-test.true ∙ ap (λ b. b && every name_byte (drop (c.loop-c.c-index + 1) c.args.name.now)) (sym c.if-not-is_name_byte.ensures))
 
 pub loop-c-preserved : goal.loop-c-preserved
 loop-c-preserved c =
-    ap (λ b. b && every name_byte (drop (c.loop-c.c-index + 1) c.args.name.now)) c.if-not-is-name-byte.ensures ∙ sym (at_drop_more (every name_byte) c.args.name.now c.loop-c.c-index 0 c.loop-c-test.true) ∙ c.loop-c.invariant
+    ap (λ b. b && every name_byte (drop (c.loop-c.c-index + 1) c.args.name.now)) c.if-not-is_name_byte.ensures ∙ sym (at_drop_more (every name_byte) c.args.name.now c.loop-c.c-index 0 c.loop-c-test.true) ∙ c.loop-c.invariant
 
 pub returns : goal.returns
 returns c =
     let e : every name_byte c.args.name.now ≡ true = sym c.loop-c.invariant ∙ at_drop_all (every name_byte) _ _ c.loop-c-test.false in
-    rw (e, ← c.if-is-digit.ensures) (grind (arith, nat_tests))
+    rw (e, ← c.if-is_digit.ensures) (grind (arith, nat_tests))

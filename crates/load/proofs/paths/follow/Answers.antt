@@ -7,12 +7,12 @@ use Rattle.load.proofs.paths.follow.Goals as goal
 
 pub returns-in-None : goal.returns-in-None
 returns-in-None c =
-    walk_off (values (standing c.args.store.now)) c.loop-i.node c.args.path.now c.args.n c.loop-i.i c.span.result c.number-at-offset.result (omega arith) c.span.ensures c.number-at-offset.ensures c.in-None.ensures
+    walk_off (values (standing c.args.store.now)) c.loop-i.node c.args.path.now c.args.n c.loop-i.i c.span.result c.number_at-offset.result (omega arith) c.span.ensures c.number_at-offset.ensures c.in-None.ensures
     ∙ c.loop-i.invariant
 
 pub loop-i-preserved : goal.loop-i-preserved
 loop-i-preserved c =
-    rw c.through-node.ensures (walk_on (values (standing c.args.store.now)) c.loop-i.node c.args.path.now c.args.n c.loop-i.i c.span.result c.number-at-offset.result (omega arith) c.span.ensures c.number-at-offset.ensures c.in-Some.number c.in-Some.ensures
+    rw c.through-node.ensures (walk_on (values (standing c.args.store.now)) c.loop-i.node c.args.path.now c.args.n c.loop-i.i c.span.result c.number_at-offset.result (omega arith) c.span.ensures c.number_at-offset.ensures c.in-Some.number c.in-Some.ensures
     ∙ c.loop-i.invariant)
 
 pub returns : goal.returns

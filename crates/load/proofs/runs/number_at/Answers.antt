@@ -17,5 +17,5 @@ returns-in-Two c =
 pub returns-in-Four : goal.returns-in-Four
 returns-in-Four c =
     let w = ap width c.in-Four.is in
-    let v : c.from-le-bytes.result ≡ four_at c.args.bytes.now c.args.at = search rules in
+    let v : c.from_le_bytes.result ≡ four_at c.args.bytes.now c.args.at = search rules in
     rw w (v ∙ sym (number_four c.args.bytes.now c.args.at (omega arith)))

@@ -8,14 +8,14 @@ use Rattle.redbin.specs.Reading.{content, below, add, signed, any_word}
 use Rattle.load.proofs.Filling.{field_stop, field_add}
 use Rattle.load.proofs.scalars.integer.Goals as goal
 
-pub returns-in-err-n : goal.returns-in-err-n
+pub returns-in_err-n : goal.returns-in_err-n
 unfolding content
-returns-in-err-n c =
+returns-in_err-n c =
     let p = err_from_is_err_and c.from-residual.result c.from-residual.ensures.1 in
-    rw (p.1, p.2) (λ one. field_stop c.args.reader.now _ c.args.store.now (λ n. any_word n Record) (λ s n. add s c.args.place (tag c.args.label) (integer (signed n))) _ c.requires.kept c.in-err-n.ensures)
+    rw (p.1, p.2) (λ one. field_stop c.args.reader.now _ c.args.store.now (λ n. any_word n Record) (λ s n. add s c.args.place (tag c.args.label) (integer (signed n))) _ c.requires.kept c.in_err-n.ensures)
 
 pub returns : goal.returns
 unfolding content
 returns c =
-    let v = c.integer-value.ensures in
-    λ one. field_add c.args.reader.now _ c.args.store.now (λ n. any_word n Record) (λ s n. add s c.args.place (tag c.args.label) (integer (signed n))) _ _ _ c.in-ok-n.ensures (rw v at c.add.ensures)
+    let v = c.integer_value.ensures in
+    λ one. field_add c.args.reader.now _ c.args.store.now (λ n. any_word n Record) (λ s n. add s c.args.place (tag c.args.label) (integer (signed n))) _ _ _ c.in_ok-n.ensures (rw v at c.add.ensures)

@@ -3,4 +3,4 @@ use Rattle.load.proofs.shares.share_object.Goals as goal
 
 pub returns : goal.returns
 unfolding content
-returns c = λ one. c.add-share.ensures
+returns c = λ one. c.add_share.ensures

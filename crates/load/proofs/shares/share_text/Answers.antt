@@ -11,20 +11,20 @@ use Rattle.load.specs.Ran.{size_of}
 use Rattle.load.proofs.Filling.{field_stop, field_fill}
 use Rattle.load.proofs.shares.share_text.Goals as goal
 
-pub returns-in-err-head : goal.returns-in-err-head
+pub returns-in_err-head : goal.returns-in_err-head
 unfolding content
-returns-in-err-head c =
+returns-in_err-head c =
     let p = err_from_is_err_and c.from-residual.result c.from-residual.ensures.1 in
-    rw (p.1, p.2) (λ one. field_stop c.args.reader.now _ c.args.store.now (λ n. word n Record) (λ s n. add_share s c.args.place (tag c.args.label) (Shared c.args.kind n)) _ c.requires.kept c.in-err-head.ensures)
+    rw (p.1, p.2) (λ one. field_stop c.args.reader.now _ c.args.store.now (λ n. word n Record) (λ s n. add_share s c.args.place (tag c.args.label) (Shared c.args.kind n)) _ c.requires.kept c.in_err-head.ensures)
 
-pub add-share-requires : goal.add-share-requires
-add-share-requires c =
-    let n = c.in-ok-head.head in
-    let small : n < 2147483648 = (below_got (size_of c.args.reader.now) Record 4 2147483648 Large _ n _ (c.in-ok-head.ensures.ran [])).0 in
+pub add_share-requires : goal.add_share-requires
+add_share-requires c =
+    let n = c.in_ok-head.head in
+    let small : n < 2147483648 = (below_got (size_of c.args.reader.now) Record 4 2147483648 Large _ n _ (c.in_ok-head.ensures.ran [])).0 in
     let ok : ltb n 2147483648 ≡ true = grind (arith, nat_tests) in
     record { ready = c.requires; allowed = ok }
 
 pub returns : goal.returns
 unfolding content
 returns c =
-    λ one. field_fill c.args.reader.now _ c.args.store.now (λ n. word n Record) (λ s n. add_share s c.args.place (tag c.args.label) (Shared c.args.kind n)) _ _ c.in-ok-head.head _ c.in-ok-head.ensures c.add-share.ensures
+    λ one. field_fill c.args.reader.now _ c.args.store.now (λ n. word n Record) (λ s n. add_share s c.args.place (tag c.args.label) (Shared c.args.kind n)) _ _ c.in_ok-head.head _ c.in_ok-head.ensures c.add_share.ensures

@@ -9,14 +9,14 @@ returns-then-from-strings c = sym (name_behind c.args.strings.now c.args.offset 
 pub returns-in-None : goal.returns-in-None
 returns-in-None c = sym (name_endless c.args.strings.now c.args.offset (rw take_rest at c.in-None.ensures))
 
-pub returns-then-is-name : goal.returns-then-is-name
-returns-then-is-name c =
+pub returns-then-is_name : goal.returns-then-is_name
+returns-then-is_name c =
     let z = rw take_rest at c.in-Some.ensures in
-    let l = rw take_rest at c.if-is-name.ensures in
+    let l = rw take_rest at c.if-is_name.ensures in
     rw take_rest (sym (name_lawful c.args.strings.now c.args.offset c.in-Some.end z.0 z.1 z.2 (sym l)))
 
-pub returns-else-is-name : goal.returns-else-is-name
-returns-else-is-name c =
+pub returns-else-is_name : goal.returns-else-is_name
+returns-else-is_name c =
     let z = rw take_rest at c.in-Some.ensures in
-    let l = rw take_rest at c.if-is-name.ensures in
+    let l = rw take_rest at c.if-is_name.ensures in
     sym (name_unlawful c.args.strings.now c.args.offset c.in-Some.end z.0 z.1 z.2 (sym l))

@@ -16,8 +16,8 @@ counted m e n k len b p h = subst (λ (k : ℕ). has_room m e (so_much 1 k len) 
 lawful_at : (m m' : Memory) (e e' : Steps) (s s' : Step) → m' ≡ m → e' ≡ e → s' ≡ s → refusal m e s ≡ None → refusal m' e' s' ≡ None
 lawful_at m m' e e' s s' p q r h = rw (p, q, r) h
 
-pub returns-then-not-has-room : goal.returns-then-not-has-room
-returns-then-not-has-room c =
+pub returns-then-not-has_room : goal.returns-then-not-has_room
+returns-then-not-has_room c =
     let b = c.args.store.now in
     let m = memory_lent b in
     let e = standing b in
@@ -25,11 +25,11 @@ returns-then-not-has-room c =
     let t = c.args.text in
     let v = decoded t in
     let k = length_entries (width t.unit) t.count t.bytes.now in
-    let lacks = counted m e t.count _ (length l.name) false k c.if-not-has-room.ensures in
+    let lacks = counted m e t.count _ (length l.name) false k c.if-not-has_room.ensures in
     record { kept = c.requires.ready.kept; memory = refl; came = λ s bytes u. add_refused s m u bytes e c.args.place l v lacks }
 
-pub add-text-requires : goal.add-text-requires
-add-text-requires c =
+pub add_text-requires : goal.add_text-requires
+add_text-requires c =
     let b = c.args.store.now in
     let m = memory_lent b in
     let e = standing b in
@@ -40,7 +40,7 @@ add-text-requires c =
     let k = length_entries (width t.unit) t.count t.bytes.now in
     let same : take t.count (free_points c.decode.new.store) ≡ ps = rw k at w.written in
     let p = c.requires.ready in
-    let has = counted m e t.count _ (length l.name) true k c.if-not-has-room.ensures in
+    let has = counted m e t.count _ (length l.name) true k c.if-not-has_room.ensures in
     record {
       kept = w.kept;
       counted = ap length same ∙ k;
@@ -57,10 +57,10 @@ returns c =
     let t = c.args.text in
     let ps = entries (width t.unit) t.count t.bytes.now in
     let w = c.decode.ensures in
-    let g = c.add-text.ensures in
+    let g = c.add_text.ensures in
     let k = length_entries (width t.unit) t.count t.bytes.now in
     let same : take t.count (free_points c.decode.new.store) ≡ ps = rw k at w.written in
-    let has = counted m e t.count _ (length l.name) true k c.if-not-has-room.ensures in
-    let told : standing c.add-text.new.self ≡ begin l (put (decoded t)) ∷ e =
+    let has = counted m e t.count _ (length l.name) true k c.if-not-has_room.ensures in
+    let told : standing c.add_text.new.self ≡ begin l (put (decoded t)) ∷ e =
     g.told ∙ ap (λ (f : Steps). begin l (put (text t.kind t.head (take t.count (free_points c.decode.new.store)))) ∷ f) w.told ∙ ap (λ (qs : List ℕ). begin l (put (text t.kind t.head qs)) ∷ e) same in
     record { kept = g.kept; memory = g.memory ∙ w.memory; came = λ s bytes u. rw told (add_got s m u bytes e c.args.place l (decoded t) has) }

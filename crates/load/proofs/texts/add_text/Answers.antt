@@ -40,24 +40,24 @@ module _ (place : ℕ) (l : Tag) (kind : TextKind) (unit : ℕ) where
   abbrev after-head : Setting → ℕ → Reads (Unit {0})
   after-head c head = lengths c.size >>= after-length head c
 
-pub returns-in-err-head : goal.returns-in-err-head
+pub returns-in_err-head : goal.returns-in_err-head
 unfolding add_text
-returns-in-err-head c =
+returns-in_err-head c =
     let p = err_from_is_err_and c.from-residual.result c.from-residual.ensures.1 in
     let u = width c.args.unit in
     let l = tag c.args.label in
-    rw (p.1, p.2) (field_stop c.args.reader.now _ c.args.store.now (λ n. word n Record) (after-head c.args.place l c.args.kind u) _ c.requires.kept c.in-err-head.ensures)
+    rw (p.1, p.2) (field_stop c.args.reader.now _ c.args.store.now (λ n. word n Record) (after-head c.args.place l c.args.kind u) _ c.requires.kept c.in_err-head.ensures)
 
-pub returns-in-err-n : goal.returns-in-err-n
+pub returns-in_err-n : goal.returns-in_err-n
 unfolding add_text
-returns-in-err-n c =
-    let p = err_from_is_err_and c.from-residual-in-err-n.result c.from-residual-in-err-n.ensures.1 in
+returns-in_err-n c =
+    let p = err_from_is_err_and c.from-residual-in_err-n.result c.from-residual-in_err-n.ensures.1 in
     let b = c.args.store.now in
     let u = width c.args.unit in
     let l = tag c.args.label in
-    let head = c.in-ok-head.head in
-    rw (p.1, p.2) (field_fill c.args.reader.now c.word.new.self b (λ n. word n Record) (after-head c.args.place l c.args.kind u) _ b head _ c.in-ok-head.ensures
-    (field_stop c.word.new.self _ b lengths (after-length c.args.place l c.args.kind u head) _ c.requires.kept c.in-err-n.ensures))
+    let head = c.in_ok-head.head in
+    rw (p.1, p.2) (field_fill c.args.reader.now c.word.new.self b (λ n. word n Record) (after-head c.args.place l c.args.kind u) _ b head _ c.in_ok-head.ensures
+    (field_stop c.word.new.self _ b lengths (after-length c.args.place l c.args.kind u head) _ c.requires.kept c.in_err-n.ensures))
 
 -- a text whose head and length were read
 module _ (place : ℕ) (l : Tag) (kind : TextKind) (unit head n : ℕ) (b : Store) (r s₁ s₂ : Reader) (h₁ : Did r (λ n. word n Record) (Ok head) s₁) (h₂ : Did s₁ lengths (Ok n) s₂) where
@@ -75,48 +75,48 @@ blanks_by r s unit n size k answer p q d =
     let e : k ≡ fill 4 (unit * n) = p ∙ ap (fill 4) (q ∙ mul_comm n unit) in
     subst (λ (k : ℕ). Did r (λ z. run z Record 1 1 BadContent k) answer s) e d
 
-pub returns-in-err-bytes : goal.returns-in-err-bytes
-returns-in-err-bytes c =
-    let p = err_from_is_err_and c.from-residual-in-err-bytes.result c.from-residual-in-err-bytes.ensures.1 in
+pub returns-in_err-bytes : goal.returns-in_err-bytes
+returns-in_err-bytes c =
+    let p = err_from_is_err_and c.from-residual-in_err-bytes.result c.from-residual-in_err-bytes.ensures.1 in
     let b = c.args.store.now in
     let u = width c.args.unit in
     let l = tag c.args.label in
-    let head = c.in-ok-head.head in
-    let n = c.in-ok-n.n in
-    rw (p.1, p.2) (past-length c.args.place l c.args.kind u head n b c.args.reader.now c.word.new.self c.number.new.self c.in-ok-head.ensures c.in-ok-n.ensures _ _ b
-    (field_stop c.number.new.self _ b (points u n) (after-points c.args.place l c.args.kind u head n) _ c.requires.kept c.in-err-bytes.ensures.did))
+    let head = c.in_ok-head.head in
+    let n = c.in_ok-n.n in
+    rw (p.1, p.2) (past-length c.args.place l c.args.kind u head n b c.args.reader.now c.word.new.self c.number.new.self c.in_ok-head.ensures c.in_ok-n.ensures _ _ b
+    (field_stop c.number.new.self _ b (points u n) (after-points c.args.place l c.args.kind u head n) _ c.requires.kept c.in_err-bytes.ensures.did))
 
-pub returns-in-err-run : goal.returns-in-err-run
-returns-in-err-run c =
-    let p = err_from_is_err_and c.from-residual-in-err-run.result c.from-residual-in-err-run.ensures.1 in
+pub returns-in_err-run : goal.returns-in_err-run
+returns-in_err-run c =
+    let p = err_from_is_err_and c.from-residual-in_err-run.result c.from-residual-in_err-run.ensures.1 in
     let b = c.args.store.now in
     let u = width c.args.unit in
     let l = tag c.args.label in
-    let head = c.in-ok-head.head in
-    let n = c.in-ok-n.n in
-    let ps = entries u n c.in-ok-bytes.bytes.now in
-    rw (p.1, p.2) (past_points c.args.place l c.args.kind u head n b c.args.reader.now c.word.new.self c.number.new.self c.in-ok-head.ensures c.in-ok-n.ensures c.run.new.self ps _ _ b c.in-ok-bytes.ensures.did
+    let head = c.in_ok-head.head in
+    let n = c.in_ok-n.n in
+    let ps = entries u n c.in_ok-bytes.bytes.now in
+    rw (p.1, p.2) (past_points c.args.place l c.args.kind u head n b c.args.reader.now c.word.new.self c.number.new.self c.in_ok-head.ensures c.in_ok-n.ensures c.run.new.self ps _ _ b c.in_ok-bytes.ensures.did
     (field_stop c.run.new.self _ b (blanks u n) (λ s _. add s c.args.place l (text c.args.kind head ps)) _ c.requires.kept
-    (blanks_by c.run.new.self _ u n c.span.result c.fill.result _ c.fill.ensures c.span.ensures c.in-err-run.ensures.did)))
+    (blanks_by c.run.new.self _ u n c.span.result c.fill.result _ c.fill.ensures c.span.ensures c.in_err-run.ensures.did)))
 
-pub add-decoded-requires : goal.add-decoded-requires
-add-decoded-requires c =
+pub add_decoded-requires : goal.add_decoded-requires
+add_decoded-requires c =
     let u = width c.args.unit in
-    let head = c.in-ok-head.head in
-    let n = c.in-ok-n.n in
-    let ps = entries u n c.in-ok-bytes.bytes.now in
-    let small : head < 2147483648 = (below_got (size_of c.args.reader.now) Record 4 2147483648 Large _ head _ (c.in-ok-head.ensures.ran [])).0 in
-    let fine = (run_got (size_of c.number.new.self) Record u 1114112 BadContent n _ ps _ (c.in-ok-bytes.ensures.did.ran [])).0 in
-    record { ready = c.requires; long = omega (arith, c.in-ok-bytes.ensures.long); allowed = and_from _ _ (lt-ltb _ _ small) (codepoints_from ps fine) }
+    let head = c.in_ok-head.head in
+    let n = c.in_ok-n.n in
+    let ps = entries u n c.in_ok-bytes.bytes.now in
+    let small : head < 2147483648 = (below_got (size_of c.args.reader.now) Record 4 2147483648 Large _ head _ (c.in_ok-head.ensures.ran [])).0 in
+    let fine = (run_got (size_of c.number.new.self) Record u 1114112 BadContent n _ ps _ (c.in_ok-bytes.ensures.did.ran [])).0 in
+    record { ready = c.requires; long = omega (arith, c.in_ok-bytes.ensures.long); allowed = and_from _ _ (lt-ltb _ _ small) (codepoints_from ps fine) }
 
 pub returns : goal.returns
 returns c =
     let b = c.args.store.now in
     let u = width c.args.unit in
     let l = tag c.args.label in
-    let head = c.in-ok-head.head in
-    let n = c.in-ok-n.n in
-    let ps = entries u n c.in-ok-bytes.bytes.now in
-    past_points c.args.place l c.args.kind u head n b c.args.reader.now c.word.new.self c.number.new.self c.in-ok-head.ensures c.in-ok-n.ensures c.run.new.self ps _ _ _ c.in-ok-bytes.ensures.did
+    let head = c.in_ok-head.head in
+    let n = c.in_ok-n.n in
+    let ps = entries u n c.in_ok-bytes.bytes.now in
+    past_points c.args.place l c.args.kind u head n b c.args.reader.now c.word.new.self c.number.new.self c.in_ok-head.ensures c.in_ok-n.ensures c.run.new.self ps _ _ _ c.in_ok-bytes.ensures.did
     (field_add c.run.new.self _ b (blanks u n) (λ s _. add s c.args.place l (text c.args.kind head ps)) _ _ _
-    (blanks_by c.run.new.self _ u n c.span.result c.fill.result _ c.fill.ensures c.span.ensures c.in-ok-run.ensures.did) c.add-decoded.ensures)
+    (blanks_by c.run.new.self _ u n c.span.result c.fill.result _ c.fill.ensures c.span.ensures c.in_ok-run.ensures.did) c.add_decoded.ensures)

@@ -14,13 +14,13 @@ pub loop-i-init : goal.loop-i-init
 unfolding entries
 loop-i-init c = (c.requires.kept, refl, refl, refl)
 
-pub number-at-point-requires : goal.number-at-point-requires
-number-at-point-requires c =
+pub number_at-point-requires : goal.number_at-point-requires
+number_at-point-requires c =
     let h : 0 + c.args.n * width c.args.unit ≤ length c.args.bytes.now = omega (arith, c.requires.long) in
     omega (arith, c.span.ensures, inside c.args.unit 0 c.loop-i.i c.args.n (length c.args.bytes.now) (omega arith) h)
 
-pub write-codepoint-requires : goal.write-codepoint-requires
-write-codepoint-requires c =
+pub write_codepoint-requires : goal.write_codepoint-requires
+write_codepoint-requires c =
     let i = c.loop-i.invariant in
     let f : used (standing c.args.store.now) points + c.loop-i.i < usable (memory_lent c.args.store.now) points = omega (arith, c.requires.fits) in
     record { kept = i.0; fits = fits_in (standing c.args.store.now) _ (memory_lent c.args.store.now) _ c.loop-i.i (sym i.2) (sym i.1) f }
@@ -28,14 +28,14 @@ write-codepoint-requires c =
 pub loop-i-preserved : goal.loop-i-preserved
 loop-i-preserved c =
     let i = c.loop-i.invariant in
-    let w = c.write-codepoint.ensures in
+    let w = c.write_codepoint.ensures in
     let u = width c.args.unit in
     let bs = c.args.bytes.now in
-    let p : c.number-at-point.result ≡ entry u c.loop-i.i bs = c.number-at-point.ensures ∙ ap (λ (n : ℕ). number (take u (drop n bs))) c.span.ensures in (
+    let p : c.number_at-point.result ≡ entry u c.loop-i.i bs = c.number_at-point.ensures ∙ ap (λ (n : ℕ). number (take u (drop n bs))) c.span.ensures in (
       w.kept,
       w.memory ∙ i.1,
       w.told ∙ i.2,
-      w.written ∙ ap (λ (xs : List ℕ). xs ++ (c.number-at-point.result ∷ [])) i.3 ∙ ap (λ (n : ℕ). entries u c.loop-i.i bs ++ (n ∷ [])) p
+      w.written ∙ ap (λ (xs : List ℕ). xs ++ (c.number_at-point.result ∷ [])) i.3 ∙ ap (λ (n : ℕ). entries u c.loop-i.i bs ++ (n ∷ [])) p
           ∙ sym (entries_more u c.loop-i.i bs) ∙ ap (λ (n : ℕ). entries u n bs) (sym (add-one c.loop-i.i)),
     )
 

@@ -25,8 +25,8 @@ tabled_at r s t answer e d =
     let d' : Did s (tabled r.file.now) answer t = subst (λ (f : List ℕ). Did s (tabled f) answer t) (ap (λ x. x.now) e) d in
     ran_at r s t (tabled r.file.now) answer d' e
 
-pub returns-in-err-start-of-file : goal.returns-in-err-start-of-file
-returns-in-err-start-of-file c =
+pub returns-in_err-start_of_file : goal.returns-in_err-start_of_file
+returns-in_err-start_of_file c =
     let p = err_from_is_err_and c.from-residual.result c.from-residual.ensures.1 in
     let k = in_memory (memory_lent c.args.store.now) in
     let r = c.new-reader.result in
@@ -34,59 +34,59 @@ returns-in-err-start-of-file c =
     rw (p.1, p.2) (record {
       kept = c.requires.kept;
       memory = refl;
-      comes = ap (reading k) (sym e) ∙ read_refused k r.file.now _ (whole_start k r.file.now [] [] _ (c.in-err-start-of-file.ensures.ran []));
+      comes = ap (reading k) (sym e) ∙ read_refused k r.file.now _ (whole_start k r.file.now [] [] _ (c.in_err-start_of_file.ensures.ran []));
     })
 
-pub returns-in-err-count : goal.returns-in-err-count
-returns-in-err-count c =
-    let p = err_from_is_err_and c.from-residual-in-err-count.result c.from-residual-in-err-count.ensures.1 in
+pub returns-in_err-count : goal.returns-in_err-count
+returns-in_err-count c =
+    let p = err_from_is_err_and c.from-residual-in_err-count.result c.from-residual-in_err-count.ensures.1 in
     let k = in_memory (memory_lent c.args.store.now) in
     let r = c.new-reader.result in
     let e = ap (λ x. x.now) c.new-reader.ensures.file in
-    let g₁ = c.in-ok-start-of-file.ensures in
+    let g₁ = c.in_ok-start_of_file.ensures in
     rw (p.1, p.2) (record {
       kept = c.requires.kept;
       memory = refl;
-      comes = ap (reading k) (sym e) ∙ read_refused k r.file.now _ (whole_count k r.file.now _ [] (g₁.ran []) _ (ran_at r _ _ (λ n. word n Header) _ c.in-err-count.ensures g₁.file []));
+      comes = ap (reading k) (sym e) ∙ read_refused k r.file.now _ (whole_count k r.file.now _ [] (g₁.ran []) _ (ran_at r _ _ (λ n. word n Header) _ c.in_err-count.ensures g₁.file []));
     })
 
-pub returns-in-err-payload : goal.returns-in-err-payload
-returns-in-err-payload c =
-    let p = err_from_is_err_and c.from-residual-in-err-payload.result c.from-residual-in-err-payload.ensures.1 in
+pub returns-in_err-payload : goal.returns-in_err-payload
+returns-in_err-payload c =
+    let p = err_from_is_err_and c.from-residual-in_err-payload.result c.from-residual-in_err-payload.ensures.1 in
     let k = in_memory (memory_lent c.args.store.now) in
     let r = c.new-reader.result in
     let e = ap (λ x. x.now) c.new-reader.ensures.file in
-    let g₁ = c.in-ok-start-of-file.ensures in
-    let g₂ = c.in-ok-count.ensures in
+    let g₁ = c.in_ok-start_of_file.ensures in
+    let g₂ = c.in_ok-count.ensures in
     let w₂ = ran_at r _ _ (λ n. word n Header) _ g₂ g₁.file [] in
     rw (p.1, p.2) (record {
       kept = c.requires.kept;
       memory = refl;
-      comes = ap (reading k) (sym e) ∙ read_refused k r.file.now _ (whole_payload k r.file.now _ [] (g₁.ran []) _ _ w₂ _ (ran_at r _ _ (λ n. word n Header) _ c.in-err-payload.ensures (g₂.file ∙ g₁.file) []));
+      comes = ap (reading k) (sym e) ∙ read_refused k r.file.now _ (whole_payload k r.file.now _ [] (g₁.ran []) _ _ w₂ _ (ran_at r _ _ (λ n. word n Header) _ c.in_err-payload.ensures (g₂.file ∙ g₁.file) []));
     })
 
-pub returns-in-err-symbols : goal.returns-in-err-symbols
-returns-in-err-symbols c =
-    let p = err_from_is_err_and c.from-residual-in-err-symbols.result c.from-residual-in-err-symbols.ensures.1 in
+pub returns-in_err-symbols : goal.returns-in_err-symbols
+returns-in_err-symbols c =
+    let p = err_from_is_err_and c.from-residual-in_err-symbols.result c.from-residual-in_err-symbols.ensures.1 in
     let k = in_memory (memory_lent c.args.store.now) in
     let r = c.new-reader.result in
     let e = ap (λ x. x.now) c.new-reader.ensures.file in
-    let g₁ = c.in-ok-start-of-file.ensures in
-    let g₂ = c.in-ok-count.ensures in
-    let g₃ = c.in-ok-payload.ensures in
+    let g₁ = c.in_ok-start_of_file.ensures in
+    let g₂ = c.in_ok-count.ensures in
+    let g₃ = c.in_ok-payload.ensures in
     let w₂ = ran_at r _ _ (λ n. word n Header) _ g₂ g₁.file [] in
     let w₃ = ran_at r _ _ (λ n. word n Header) _ g₃ (g₂.file ∙ g₁.file) [] in
     rw (p.1, p.2) (record {
       kept = c.requires.kept;
       memory = refl;
-      comes = ap (reading k) (sym e) ∙ read_refused k r.file.now _ (whole_table k r.file.now _ [] (g₁.ran []) _ _ w₂ _ _ w₃ _ (tabled_at r _ _ _ (g₃.file ∙ g₂.file ∙ g₁.file) c.in-err-symbols.ensures []));
+      comes = ap (reading k) (sym e) ∙ read_refused k r.file.now _ (whole_table k r.file.now _ [] (g₁.ran []) _ _ w₂ _ _ w₃ _ (tabled_at r _ _ _ (g₃.file ∙ g₂.file ∙ g₁.file) c.in_err-symbols.ensures []));
     })
 
 pub records-requires : goal.records-requires
 records-requires c =
     let b = c.args.store.now in
     let z : length (opened (standing b)) ≡ 0 = ap (λ (e : Steps). length (opened e)) c.requires.empty in
-    record { kept = c.requires.kept; deep = omega (arith, z); table = table_lawful _ _ _ _ _ (c.in-ok-symbols.ensures.ran []) }
+    record { kept = c.requires.kept; deep = omega (arith, z); table = table_lawful _ _ _ _ _ (c.in_ok-symbols.ensures.ran []) }
 
 pub returns : goal.returns
 returns c =
@@ -94,10 +94,10 @@ returns c =
     let k = in_memory (memory_lent b) in
     let r = c.new-reader.result in
     let e = ap (λ x. x.now) c.new-reader.ensures.file in
-    let g₁ = c.in-ok-start-of-file.ensures in
-    let g₂ = c.in-ok-count.ensures in
-    let g₃ = c.in-ok-payload.ensures in
-    let g₄ = c.in-ok-symbols.ensures in
+    let g₁ = c.in_ok-start_of_file.ensures in
+    let g₂ = c.in_ok-count.ensures in
+    let g₃ = c.in_ok-payload.ensures in
+    let g₄ = c.in_ok-symbols.ensures in
     let w₂ = ran_at r _ _ (λ n. word n Header) _ g₂ g₁.file [] in
     let w₃ = ran_at r _ _ (λ n. word n Header) _ g₃ (g₂.file ∙ g₁.file) [] in
     let f₃ = g₃.file ∙ g₂.file ∙ g₁.file in

@@ -23,26 +23,26 @@ module _ (k : Scope) (n : ℕ) where
   abbrev whole : Setting → Reads (Unit {0})
   whole c = records (within k c) n
 
-pub returns-in-err-check-payload : goal.returns-in-err-check-payload
-returns-in-err-check-payload c =
+pub returns-in_err-check_payload : goal.returns-in_err-check_payload
+returns-in_err-check_payload c =
     let p = err_from_is_err_and c.from-residual.result c.from-residual.ensures.1 in
     let k = c.args.scope in
     let n = c.args.count in
     let r = c.args.reader.now in
     let b = c.args.store.now in
     rw (p.1, p.2) (filled_by r r b b (whole k n) (λ s. sized k n s >> (rooted k n s >> ended k n s)) _ (λ s q. records_by (within k s) n q)
-    (filled_stop r r b b (sized k n) (λ s _. rooted k n s >> ended k n s) _ (did_fills r r b (λ _. payload_rest k.payload) _ c.requires.kept c.in-err-check-payload.ensures)))
+    (filled_stop r r b b (sized k n) (λ s _. rooted k n s >> ended k n s) _ (did_fills r r b (λ _. payload_rest k.payload) _ c.requires.kept c.in_err-check_payload.ensures)))
 
-pub returns-in-err-roots : goal.returns-in-err-roots
-returns-in-err-roots c =
-    let p = err_from_is_err_and c.from-residual-in-err-roots.result c.from-residual-in-err-roots.ensures.1 in
+pub returns-in_err-roots : goal.returns-in_err-roots
+returns-in_err-roots c =
+    let p = err_from_is_err_and c.from-residual-in_err-roots.result c.from-residual-in_err-roots.ensures.1 in
     let k = c.args.scope in
     let n = c.args.count in
     let r = c.args.reader.now in
     let b = c.args.store.now in
     rw (p.1, p.2) (filled_by r _ b _ (whole k n) (λ s. sized k n s >> (rooted k n s >> ended k n s)) _ (λ s q. records_by (within k s) n q)
-    (filled_then r r b b (sized k n) (λ s _. rooted k n s >> ended k n s) _ _ _ _ (did_fills r r b (λ _. payload_rest k.payload) _ c.requires.kept c.in-ok-check-payload.ensures)
-    (filled_stop r _ b _ (rooted k n) (λ s _. ended k n s) _ c.in-err-roots.ensures)))
+    (filled_then r r b b (sized k n) (λ s _. rooted k n s >> ended k n s) _ _ _ _ (did_fills r r b (λ _. payload_rest k.payload) _ c.requires.kept c.in_ok-check_payload.ensures)
+    (filled_stop r _ b _ (rooted k n) (λ s _. ended k n s) _ c.in_err-roots.ensures)))
 
 pub returns : goal.returns
 returns c =
@@ -50,7 +50,7 @@ returns c =
     let n = c.args.count in
     let r = c.args.reader.now in
     let b = c.args.store.now in
-    let g = c.in-ok-roots.ensures in
+    let g = c.in_ok-roots.ensures in
     filled_by r _ b _ (whole k n) (λ s. sized k n s >> (rooted k n s >> ended k n s)) _ (λ s q. records_by (within k s) n q)
-    (filled_then r r b b (sized k n) (λ s _. rooted k n s >> ended k n s) _ _ _ _ (did_fills r r b (λ _. payload_rest k.payload) _ c.requires.kept c.in-ok-check-payload.ensures)
-    (filled_then r _ b _ (rooted k n) (λ s _. ended k n s) _ _ _ _ g (did_fills _ _ _ nothing_left _ g.kept c.check-end.ensures)))
+    (filled_then r r b b (sized k n) (λ s _. rooted k n s >> ended k n s) _ _ _ _ (did_fills r r b (λ _. payload_rest k.payload) _ c.requires.kept c.in_ok-check_payload.ensures)
+    (filled_then r _ b _ (rooted k n) (λ s _. ended k n s) _ _ _ _ g (did_fills _ _ _ nothing_left _ g.kept c.check_end.ensures)))

@@ -14,16 +14,16 @@ value-requires c =
       named = root_named c.args.scope c.args.reader.now c.args.store.now c.requires c.loop.reader c.loop.depth.left c.loop.store _ _ i;
     }
 
-pub returns-in-err-value : goal.returns-in-err-value
-returns-in-err-value c =
+pub returns-in_err-value : goal.returns-in_err-value
+returns-in_err-value c =
     let p = err_from_is_err_and c.from-residual.result c.from-residual.ensures.1 in
     let i = c.loop.invariant in
-    rw (p.1, p.2) (root_broke c.args.scope c.args.reader.now c.args.store.now c.requires c.loop.reader c.loop.depth.left c.loop.store _ _ i (omega arith) _ _ _ c.in-err-value.ensures.filled)
+    rw (p.1, p.2) (root_broke c.args.scope c.args.reader.now c.args.store.now c.requires c.loop.reader c.loop.depth.left c.loop.store _ _ i (omega arith) _ _ _ c.in_err-value.ensures.filled)
 
 pub loop-preserved : goal.loop-preserved
 loop-preserved c =
     let i = c.loop.invariant in
-    let g = c.in-ok-value.ensures in
+    let g = c.in_ok-value.ensures in
     root_again c.args.scope c.args.reader.now c.args.store.now c.requires c.loop.reader c.loop.depth.left c.loop.store _ _ i (omega arith) _ _ _ g.depth g.filled
 
 pub returns : goal.returns

@@ -5,4 +5,4 @@ use Rattle.load_file.proofs.file.symbols.Goals as goal
 
 pub returns : goal.returns
 unfolding names_of entries
-returns c = record { file = refl; ran = λ e. rw (sym c.if-has-table.ensures) }
+returns c = record { file = refl; ran = λ e. rw (sym c.if-has_table.ensures) }

@@ -31,21 +31,21 @@ module _ (f : Fields) (table : List Name) where
   abbrev past-self : Setting → Bool → Reads Start
   past-self c self = word c.size Record >>= past-length self c
 
-pub returns-in-err-self-mark : goal.returns-in-err-self-mark
-returns-in-err-self-mark c =
+pub returns-in_err-self_mark : goal.returns-in_err-self_mark
+returns-in_err-self_mark c =
     let p = err_from_is_err_and c.from-residual.result c.from-residual.ensures.1 in
     let t = table_of c.args.scope.symbols in
-    rw (p.1, p.2) (record { did = in_stop c.args.reader.now _ context (past-self c.args.fields t) _ c.in-err-self-mark.ensures; placed = tt })
+    rw (p.1, p.2) (record { did = in_stop c.args.reader.now _ context (past-self c.args.fields t) _ c.in_err-self_mark.ensures; placed = tt })
 
-pub returns-in-err-left : goal.returns-in-err-left
-returns-in-err-left c =
-    let p = err_from_is_err_and c.from-residual-in-err-left.result c.from-residual-in-err-left.ensures.1 in
+pub returns-in_err-left : goal.returns-in_err-left
+returns-in_err-left c =
+    let p = err_from_is_err_and c.from-residual-in_err-left.result c.from-residual-in_err-left.ensures.1 in
     let t = table_of c.args.scope.symbols in
     let f = c.args.fields in
-    let mark = c.in-ok-self-mark.self-mark in
+    let mark = c.in_ok-self_mark.self_mark in
     rw (p.1, p.2) (record {
-      did = in_then c.args.reader.now c.context.new.self context (past-self f t) _ mark _ c.in-ok-self-mark.ensures
-          (in_stop c.context.new.self _ (λ n. word n Record) (past-length f t mark) _ c.in-err-left.ensures);
+      did = in_then c.args.reader.now c.context.new.self context (past-self f t) _ mark _ c.in_ok-self_mark.ensures
+          (in_stop c.context.new.self _ (λ n. word n Record) (past-length f t mark) _ c.in_err-left.ensures);
       placed = tt;
     })
 
@@ -53,17 +53,17 @@ returns-in-err-left c =
 indexes_by : (f : Fields) (table : List Name) (r s : Reader) (n count : ℕ) (answer : Result (List ℕ) Refusal) → count ≡ length table → Did r (λ z. run z Record 4 count BadIndex n) answer s → Did r (indexes f table n) answer s
 indexes_by f table r s n count answer e d = subst (λ (k : ℕ). Did r (λ z. run z Record 4 k BadIndex n) answer s) e d
 
-pub returns-in-err-run : goal.returns-in-err-run
-returns-in-err-run c =
-    let p = err_from_is_err_and c.from-residual-in-err-run.result c.from-residual-in-err-run.ensures.1 in
+pub returns-in_err-run : goal.returns-in_err-run
+returns-in_err-run c =
+    let p = err_from_is_err_and c.from-residual-in_err-run.result c.from-residual-in_err-run.ensures.1 in
     let t = table_of c.args.scope.symbols in
     let f = c.args.fields in
-    let mark = c.in-ok-self-mark.self-mark in
-    let n = c.in-ok-left.left in
+    let mark = c.in_ok-self_mark.self_mark in
+    let n = c.in_ok-left.left in
     rw (p.1, p.2) (record {
-      did = in_then c.args.reader.now c.context.new.self context (past-self f t) _ mark _ c.in-ok-self-mark.ensures
-          (in_then c.context.new.self c.word.new.self (λ n. word n Record) (past-length f t mark) _ n _ c.in-ok-left.ensures
-          (in_stop c.word.new.self _ (indexes f t n) (λ _ is. return (made_of f t mark is)) _ (indexes_by f t _ _ n _ _ c.count-count.ensures c.in-err-run.ensures.did)));
+      did = in_then c.args.reader.now c.context.new.self context (past-self f t) _ mark _ c.in_ok-self_mark.ensures
+          (in_then c.context.new.self c.word.new.self (λ n. word n Record) (past-length f t mark) _ n _ c.in_ok-left.ensures
+          (in_stop c.word.new.self _ (indexes f t n) (λ _ is. return (made_of f t mark is)) _ (indexes_by f t _ _ n _ _ c.count-count.ensures c.in_err-run.ensures.did)));
       placed = tt;
     })
 
@@ -76,23 +76,23 @@ returns c =
     let t = table_of c.args.scope.symbols in
     let f = c.args.fields in
     let file = c.args.reader.now.file.now in
-    let mark = c.in-ok-self-mark.self-mark in
-    let n = c.in-ok-left.left in
+    let mark = c.in_ok-self_mark.self_mark in
+    let n = c.in_ok-left.left in
     let s = c.word.new.self in
     let end = c.place-symbols.result in
-    let bytes = c.in-ok-run.field-0.now in
-    let same : s.file.now ≡ file = ap (λ x. x.now) (c.in-ok-left.ensures.file ∙ c.in-ok-self-mark.ensures.file) in
-    let ends : end ≡ s.place + n * 4 = c.place-symbols.ensures ∙ c.in-ok-run.ensures.moved in
+    let bytes = c.in_ok-run.field-0.now in
+    let same : s.file.now ≡ file = ap (λ x. x.now) (c.in_ok-left.ensures.file ∙ c.in_ok-self_mark.ensures.file) in
+    let ends : end ≡ s.place + n * 4 = c.place-symbols.ensures ∙ c.in_ok-run.ensures.moved in
     let starts : s.place ≡ end - 4 * n = omega (arith, ends) in
     let rest : rest_of s ≡ drop (end - 4 * n) file = ap (λ (k : ℕ). drop k s.file.now) starts ∙ ap (drop (end - 4 * n)) same in
-    let part : bytes ≡ take (n * 4) (drop (end - 4 * n) file) = c.in-ok-run.ensures.part ∙ ap (take (n * 4)) rest in
+    let part : bytes ≡ take (n * 4) (drop (end - 4 * n) file) = c.in_ok-run.ensures.part ∙ ap (take (n * 4)) rest in
     let names : entries 4 n bytes ≡ entries 4 n (drop (end - 4 * n) file) = ap (entries 4 n) part ∙ entries_take 4 n (drop (end - 4 * n) file) in
     let inside : end - 4 * n ≤ length file = omega (arith, starts, s.within, ap length same) in
-    let fits = fits_from file (end - 4 * n) n inside (ap length (sym part) ∙ c.in-ok-run.ensures.long) in
+    let fits = fits_from file (end - 4 * n) n inside (ap length (sym part) ∙ c.in_ok-run.ensures.long) in
     record {
-      did = in_then c.args.reader.now c.context.new.self context (past-self f t) _ mark _ c.in-ok-self-mark.ensures
-          (in_then c.context.new.self s (λ n. word n Record) (past-length f t mark) _ n _ c.in-ok-left.ensures
-          (in_then s _ (indexes f t n) (λ _ is. return (made_of f t mark is)) _ (entries 4 n bytes) _ (indexes_by f t _ _ n _ _ c.count-count.ensures c.in-ok-run.ensures.did)
+      did = in_then c.args.reader.now c.context.new.self context (past-self f t) _ mark _ c.in_ok-self_mark.ensures
+          (in_then c.context.new.self s (λ n. word n Record) (past-length f t mark) _ n _ c.in_ok-left.ensures
+          (in_then s _ (indexes f t n) (λ _ is. return (made_of f t mark is)) _ (entries 4 n bytes) _ (indexes_by f t _ _ n _ _ c.count-count.ensures c.in_ok-run.ensures.did)
           (in_end _ (λ _. made_of f t mark (entries 4 n bytes)) _ (λ _. ap (made_of f t mark) names))));
       placed = (omega (arith, ends), omega (arith, fits, ends));
     }

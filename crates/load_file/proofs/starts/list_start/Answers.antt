@@ -14,27 +14,27 @@ made_of k head n = record { holder = OfList k head; names = replicate n [] }
 abbrev past_head : ListKind → ℕ → ℕ → Reads Start
 past_head k size head = word size Record >>= λ n. return (made_of k head n)
 
-pub returns-in-err-head : goal.returns-in-err-head
-returns-in-err-head c =
+pub returns-in_err-head : goal.returns-in_err-head
+returns-in_err-head c =
     let p = err_from_is_err_and c.from-residual.result c.from-residual.ensures.1 in
-    rw (p.1, p.2) (record { did = did_stop c.args.reader.now _ (λ n. word n Record) (past_head c.args.kind) _ c.in-err-head.ensures; unnamed = tt })
+    rw (p.1, p.2) (record { did = did_stop c.args.reader.now _ (λ n. word n Record) (past_head c.args.kind) _ c.in_err-head.ensures; unnamed = tt })
 
-pub returns-in-err-left : goal.returns-in-err-left
-returns-in-err-left c =
-    let p = err_from_is_err_and c.from-residual-in-err-left.result c.from-residual-in-err-left.ensures.1 in
-    let head = c.in-ok-head.head in
+pub returns-in_err-left : goal.returns-in_err-left
+returns-in_err-left c =
+    let p = err_from_is_err_and c.from-residual-in_err-left.result c.from-residual-in_err-left.ensures.1 in
+    let head = c.in_ok-head.head in
     rw (p.1, p.2) (record {
-      did = did_then c.args.reader.now c.word.new.self (λ n. word n Record) (past_head c.args.kind) _ head _ c.in-ok-head.ensures
-          (did_stop c.word.new.self _ (λ n. word n Record) (λ _ n. return (made_of c.args.kind head n)) _ c.in-err-left.ensures);
+      did = did_then c.args.reader.now c.word.new.self (λ n. word n Record) (past_head c.args.kind) _ head _ c.in_ok-head.ensures
+          (did_stop c.word.new.self _ (λ n. word n Record) (λ _ n. return (made_of c.args.kind head n)) _ c.in_err-left.ensures);
       unnamed = tt;
     })
 
 pub returns : goal.returns
 returns c =
-    let head = c.in-ok-head.head in
-    let left = c.in-ok-left.left in
+    let head = c.in_ok-head.head in
+    let left = c.in_ok-left.left in
     record {
-      did = did_then c.args.reader.now c.word.new.self (λ n. word n Record) (past_head c.args.kind) _ head _ c.in-ok-head.ensures
-          (did_then c.word.new.self _ (λ n. word n Record) (λ _ n. return (made_of c.args.kind head n)) _ left _ c.in-ok-left.ensures (did_end _ _));
+      did = did_then c.args.reader.now c.word.new.self (λ n. word n Record) (past_head c.args.kind) _ head _ c.in_ok-head.ensures
+          (did_then c.word.new.self _ (λ n. word n Record) (λ _ n. return (made_of c.args.kind head n)) _ left _ c.in_ok-left.ensures (did_end _ _));
       unnamed = refl;
     }

@@ -13,7 +13,7 @@ listable_push es e l h g = (omega (arith, length_push es e), All-push _ es e l.1
 
 pub loop-words-preserved : goal.loop-words-preserved
 loop-words-preserved c =
-    let e = c.in-Some-read-line.entry in
+    let e = c.in-Some-read_line.entry in
     let z = ap (λ d. good (pair e.name.now d)) (to_z-of_z w32 e.delay (search rules)) in
     let n : length (vec_items c.loop-words.entries) < 16384 = omega (arith, c.len.ensures, c.loop-words.entries.ok.0) in
-    subst Listable (sym c.in-ok-push.ensures.items) (listable_push (vec_items c.loop-words.entries) e c.loop-words.invariant n (sym z ∙ sym c.if-not-is-good.ensures))
+    subst Listable (sym c.in_ok-push.ensures.items) (listable_push (vec_items c.loop-words.entries) e c.loop-words.invariant n (sym z ∙ sym c.if-not-is_good.ensures))

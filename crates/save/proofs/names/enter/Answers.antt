@@ -5,21 +5,21 @@ use Rattle.save.proofs.Sane.{kept_sound}
 use Rattle.save.proofs.Climbs.{count_below}
 use Rattle.save.proofs.Walks.{enter_object, enter_other}
 use Rattle.save.proofs.names.enter.Goals as goal
-use Rattle.save.proofs.names.enter.Goals.{then-is-object, else-is-object}
+use Rattle.save.proofs.names.enter.Goals.{then-is_object, else-is_object}
 
-pub overflow-add-result : goal.overflow-add-result
-overflow-add-result c = omega (arith, c.requires.more, count_below c.args.store.now c.requires.kept)
+pub overflow_add-result : goal.overflow_add-result
+overflow_add-result c = omega (arith, c.requires.more, count_below c.args.store.now c.requires.kept)
 
-pub overflow-add-result-2 : goal.overflow-add-result-2
-overflow-add-result-2 c = omega (arith, c.requires.more, count_below c.args.store.now c.requires.kept)
+pub overflow_add-result-2 : goal.overflow_add-result-2
+overflow_add-result-2 c = omega (arith, c.requires.more, count_below c.args.store.now c.requires.kept)
 
 pub returns : goal.returns
 returns c =
     let xs = values (standing c.args.store.now) in
     record {
-      stands = elim c.if-is-object.branch [
-        | then-is-object w ↦ rw w.left-is (enter_object xs c.args.cursor _ (kept_sound c.args.store.now) c.requires.stands c.requires.done c.requires.more w.if-is-object.ensures w.inner-count-left.ensures)
-        | else-is-object w ↦ enter_other xs c.args.cursor _ c.requires.stands c.requires.done c.requires.more w.if-is-object.ensures w.left-is
+      stands = elim c.if-is_object.branch [
+        | then-is_object w ↦ rw w.left-is (enter_object xs c.args.cursor _ (kept_sound c.args.store.now) c.requires.stands c.requires.done c.requires.more w.if-is_object.ensures w.inner_count-left.ensures)
+        | else-is_object w ↦ enter_other xs c.args.cursor _ c.requires.stands c.requires.done c.requires.more w.if-is_object.ensures w.left-is
       ];
       index = refl;
       next = refl;

@@ -5,8 +5,8 @@ use Rattle.save.proofs.Climbs.{count_below}
 use Rattle.save.proofs.Walks.{value_there, value_passed}
 use Rattle.save.proofs.names.find_value.Goals as goal
 
-pub overflow-add-value : goal.overflow-add-value
-overflow-add-value c = omega (arith, c.loop-holder.invariant.1, count_below c.args.store.now c.requires.kept)
+pub overflow_add-value : goal.overflow_add-value
+overflow_add-value c = omega (arith, c.loop-holder.invariant.1, count_below c.args.store.now c.requires.kept)
 
 pub loop-holder-preserved : goal.loop-holder-preserved
 loop-holder-preserved c =

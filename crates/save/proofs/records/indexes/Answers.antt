@@ -9,7 +9,7 @@ use Rattle.save.proofs.Climbs.{count_below}
 use Rattle.save.proofs.Sane.{kept_sound, kept_fine, first_none, fine_name}
 use Rattle.save.proofs.Indexes.{going_none, going_in, going_out, going_all, going_as}
 use Rattle.save.proofs.records.indexes.Goals as goal
-use Rattle.save.proofs.records.indexes.Goals.{then-is-held, else-is-held}
+use Rattle.save.proofs.records.indexes.Goals.{then-is_held, else-is_held}
 
 pub loop-left-init : goal.loop-left-init
 loop-left-init g c =
@@ -22,14 +22,14 @@ loop-left-preserved g c =
     let f = g.S.Sink.output in
     let h = At c.args.number in
     let ready = ready_gained f _ _ _ c.args.table.start c.args.table.end (symbols xs) c.loop-left.invariant.0 c.requires.ready in
-    elim c.if-is-held.branch [
-      | then-is-held w ↦
+    elim c.if-is_held.branch [
+      | then-is_held w ↦
           going_as f xs (symbols xs) h _ _ _ _ _ _ w.sink-is w.left-is
-          (going_in f xs (symbols xs) h _ _ _ c.loop-left.value c.loop-left.left _ c.loop-left-test.true c.loop-left.invariant w.if-is-held.ensures w.name-of.ensures
-          (w.symbol.ensures (symbols xs) ready (subst (λ n. no_zero n ≡ true) (sym w.name-of.ensures) (fine_name xs (kept_fine c.args.store.now c.requires.kept) c.loop-left.value))))
-      | else-is-held w ↦
+          (going_in f xs (symbols xs) h _ _ _ c.loop-left.value c.loop-left.left _ c.loop-left-test.true c.loop-left.invariant w.if-is_held.ensures w.name_of.ensures
+          (w.symbol.ensures (symbols xs) ready (subst (λ n. no_zero n ≡ true) (sym w.name_of.ensures) (fine_name xs (kept_fine c.args.store.now c.requires.kept) c.loop-left.value))))
+      | else-is_held w ↦
           going_as f xs (symbols xs) h _ _ _ _ _ _ w.sink-is w.left-is
-          (going_out f xs (symbols xs) h _ _ c.loop-left.value c.loop-left.left c.loop-left-test.true c.loop-left.invariant w.if-is-held.ensures)
+          (going_out f xs (symbols xs) h _ _ c.loop-left.value c.loop-left.left c.loop-left-test.true c.loop-left.invariant w.if-is_held.ensures)
     ]
 
 pub returns : goal.returns
@@ -37,8 +37,8 @@ returns g c =
     let xs = values (standing c.args.store.now) in
     going_all g.S.Sink.output xs (symbols xs) (At c.args.number) _ _ c.loop-left.value c.loop-left.left (omega arith) c.loop-left.invariant
 
-pub overflow-add-value : goal.overflow-add-value
-overflow-add-value g c = omega (arith, c.requires.there, count_below c.args.store.now c.requires.kept)
+pub overflow_add-value : goal.overflow_add-value
+overflow_add-value g c = omega (arith, c.requires.there, count_below c.args.store.now c.requires.kept)
 
-pub overflow-add-value-in-loop-left : goal.overflow-add-value-in-loop-left
-overflow-add-value-in-loop-left g c = omega (arith, c.loop-left.invariant.2, count_below c.args.store.now c.requires.kept)
+pub overflow_add-value-in-loop-left : goal.overflow_add-value-in-loop-left
+overflow_add-value-in-loop-left g c = omega (arith, c.loop-left.invariant.2, count_below c.args.store.now c.requires.kept)

@@ -6,11 +6,11 @@ use Rattle.save.proofs.Sane.{kept_fine}
 use Rattle.save.proofs.Paid.{none_label, none_begun, some_begun, fine_target}
 use Rattle.save.proofs.records.record.Goals as goal
 
-pub returns-in-default : goal.returns-in-default
-returns-in-default g c = λ place p. none_label g.S.Sink.output (values (standing c.args.store.now)) c.args.number place c.args.sink.now c.in-default.ensures
+pub returns-in_default : goal.returns-in_default
+returns-in_default g c = λ place p. none_label g.S.Sink.output (values (standing c.args.store.now)) c.args.number place c.args.sink.now c.in_default.ensures
 
-pub returns-in-default-value : goal.returns-in-default-value
-returns-in-default-value g c = λ place p. none_begun g.S.Sink.output (values (standing c.args.store.now)) c.args.number place c.args.sink.now c.in-default-value.ensures
+pub returns-in_default-value : goal.returns-in_default-value
+returns-in_default-value g c = λ place p. none_begun g.S.Sink.output (values (standing c.args.store.now)) c.args.number place c.args.sink.now c.in_default-value.ensures
 
 pub share-requires : goal.share-requires
 share-requires g c =

@@ -9,4 +9,4 @@ pub reference-requires : goal.reference-requires
 reference-requires g c = record { kept = c.requires.kept; there = there_all g.S.Sink.output (values (standing c.args.store.now)) c.args.number c.requires.within 0 (tag c.args.label) c.args.target c.requires.there }
 
 pub returns : goal.returns
-returns g c = λ place. share_recorded g.S.Sink.output (values (standing c.args.store.now)) c.args.number c.requires.within place (tag c.args.label) _ _ _ c.args.share c.args.target _ c.requires.there refl c.share-start.ensures c.reference.ensures
+returns g c = λ place. share_recorded g.S.Sink.output (values (standing c.args.store.now)) c.args.number c.requires.within place (tag c.args.label) _ _ _ c.args.share c.args.target _ c.requires.there refl c.share_start.ensures c.reference.ensures

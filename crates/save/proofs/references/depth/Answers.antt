@@ -14,11 +14,11 @@ loop-node-preserved c = up_more (values (standing c.args.store.now)) (kept_sound
 pub loop-node-smaller : goal.loop-node-smaller
 loop-node-smaller c = up_less (values (standing c.args.store.now)) (kept_sound c.args.store.now) c.args.target _ _ _ c.in-At.is c.above-node.ensures c.loop-node.invariant.1
 
-pub overflow-add-depth : goal.overflow-add-depth
-overflow-add-depth c =
+pub overflow_add-depth : goal.overflow_add-depth
+overflow_add-depth c =
     omega (arith, up_fits (values (standing c.args.store.now)) (kept_sound c.args.store.now) c.args.target _ c.loop-node.depth _ c.in-At.is c.loop-node.invariant c.requires.there (count_below c.args.store.now c.requires.kept))
 
 pub returns : goal.returns
 returns c =
-    let u = up_root (values (standing c.args.store.now)) (kept_sound c.args.store.now) c.args.target _ c.loop-node.depth c.in-default.is c.loop-node.invariant in
+    let u = up_root (values (standing c.args.store.now)) (kept_sound c.args.store.now) c.args.target _ c.loop-node.depth c.in_default.is c.loop-node.invariant in
     record { length = u.0; root = u.1 }

@@ -6,8 +6,8 @@ use Rattle.save.proofs.Sane.{kept_sound, inner_length}
 use Rattle.save.proofs.Climbs.{first_above}
 use Rattle.save.proofs.references.place.Goals as goal
 
-pub inner-count-requires : goal.inner-count-requires
-inner-count-requires c =
+pub inner_count-requires : goal.inner_count-requires
+inner_count-requires c =
     let xs = values (standing c.args.store.now) in
     record {
       kept = c.requires.kept;
@@ -18,4 +18,4 @@ inner-count-requires c =
 pub returns : goal.returns
 returns c =
     let xs = values (standing c.args.store.now) in
-    c.inner-count.ensures ∙ ap (λ h. length (inner_names (oldest c.args.number xs) h)) c.above.ensures ∙ inner_length (oldest c.args.number xs) _
+    c.inner_count.ensures ∙ ap (λ h. length (inner_names (oldest c.args.number xs) h)) c.above.ensures ∙ inner_length (oldest c.args.number xs) _

@@ -2,14 +2,14 @@ use Rattle.std.proofs.Common.{sym, ap, ◌∙◌, arith}
 use Rattle.redbin.specs.Canonical.{unit}
 use Rattle.save.proofs.scalars.unit.Goals as goal
 
-pub returns-then-all-below : goal.returns-then-all-below
+pub returns-then-all_below : goal.returns-then-all_below
 unfolding unit
-returns-then-all-below c = let a = c.if-all-below.ensures in record { value = rw (← a); bound = omega arith }
+returns-then-all_below c = let a = c.if-all_below.ensures in record { value = rw (← a); bound = omega arith }
 
-pub returns-then-all-below-2 : goal.returns-then-all-below-2
+pub returns-then-all_below-2 : goal.returns-then-all_below-2
 unfolding unit
-returns-then-all-below-2 c = let a = c.if-all-below.ensures in let b = c.if-all-below-2.ensures in record { value = rw (← a, ← b); bound = omega arith }
+returns-then-all_below-2 c = let a = c.if-all_below.ensures in let b = c.if-all_below-2.ensures in record { value = rw (← a, ← b); bound = omega arith }
 
-pub returns-else-all-below-2 : goal.returns-else-all-below-2
+pub returns-else-all_below-2 : goal.returns-else-all_below-2
 unfolding unit
-returns-else-all-below-2 c = let a = c.if-all-below.ensures in let b = c.if-all-below-2.ensures in record { value = rw (← a, ← b); bound = omega arith }
+returns-else-all_below-2 c = let a = c.if-all_below.ensures in let b = c.if-all_below-2.ensures in record { value = rw (← a, ← b); bound = omega arith }

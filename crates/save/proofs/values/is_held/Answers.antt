@@ -6,4 +6,4 @@ pub returns-in-None : goal.returns-in-None
 returns-in-None c = held_none _ _ c.in-None.ensures
 
 pub returns-in-Some : goal.returns-in-Some
-returns-in-Some c = c.same-holder.ensures ∙ held_some _ _ _ c.in-Some.ensures
+returns-in-Some c = c.same_holder.ensures ∙ held_some _ _ _ c.in-Some.ensures

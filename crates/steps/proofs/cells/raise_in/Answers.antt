@@ -1,8 +1,6 @@
-use Rattle.std.proofs.Common.{◌≡◌, ◌+◌, ◌^◌, ◌<◌, ◌≤◌, length, sym, refl, subst, arith}
-use Rattle.steps.specs.declared.parts.Node.TheVariants.{At}
-use Rattle.steps.specs.Items.{lent}
+use Rattle.std.proofs.Common.{◌≤◌, sym, refl, subst}
 use Rattle.steps.specs.Build.{more}
-use Rattle.steps.proofs.Within.{inside_memory, cell_memory, raisable_memory, changed, long}
+use Rattle.steps.proofs.Within.{inside_memory, raisable_memory, changed, long}
 use Rattle.steps.proofs.cells.raise_in.Goals as goal
 
 pub raise-requires : goal.raise-requires

@@ -5,16 +5,16 @@ use Rattle.steps.proofs.name.is_text.Goals as goal
 
 pub loop-left-preserved-in-len1-up : goal.loop-left-preserved-in-len1-up
 loop-left-preserved-in-len1-up c =
-    rw take_rest (sym (at_one c.loop-left.left.now (search rules) (sym c.if-is-one.ensures)) ∙ c.loop-left.invariant)
+    rw take_rest (sym (at_one c.loop-left.left.now (search rules) (sym c.if-is_one.ensures)) ∙ c.loop-left.invariant)
 
 pub loop-left-preserved-in-len2-up : goal.loop-left-preserved-in-len2-up
 loop-left-preserved-in-len2-up c =
-    rw take_rest (sym (at_two c.loop-left.left.now (search rules) (sym c.if-is-one.ensures) (sym c.if-is-two.ensures)) ∙ c.loop-left.invariant)
+    rw take_rest (sym (at_two c.loop-left.left.now (search rules) (sym c.if-is_one.ensures) (sym c.if-is_two.ensures)) ∙ c.loop-left.invariant)
 
 pub loop-left-preserved-in-len3-up : goal.loop-left-preserved-in-len3-up
 loop-left-preserved-in-len3-up c =
-    rw take_rest (sym (at_three c.loop-left.left.now (search rules) (sym c.if-is-one.ensures) (sym c.if-is-two.ensures) (sym c.if-is-three.ensures)) ∙ c.loop-left.invariant)
+    rw take_rest (sym (at_three c.loop-left.left.now (search rules) (sym c.if-is_one.ensures) (sym c.if-is_two.ensures) (sym c.if-is_three.ensures)) ∙ c.loop-left.invariant)
 
 pub loop-left-preserved : goal.loop-left-preserved
 loop-left-preserved c =
-    rw take_rest (sym (at_four c.loop-left.left.now (search rules) (sym c.if-is-one.ensures) (sym c.if-is-two.ensures) (sym c.if-is-three.ensures) (sym c.if-is-four.ensures)) ∙ c.loop-left.invariant)
+    rw take_rest (sym (at_four c.loop-left.left.now (search rules) (sym c.if-is_one.ensures) (sym c.if-is_two.ensures) (sym c.if-is_three.ensures) (sym c.if-is_four.ensures)) ∙ c.loop-left.invariant)

@@ -9,29 +9,29 @@ use Rattle.document.proofs.Checked.{kept_agrees}
 use Rattle.document.proofs.Adding.{few, raises, same_room, sized_twice}
 use Rattle.document.proofs.store.Store.add_cell.Goals as goal
 
-pub overflow-cast-cell : goal.overflow-cast-cell
-overflow-cast-cell c =
+pub overflow_cast-cell : goal.overflow_cast-cell
+overflow_cast-cell c =
     let s = c.args.self.now in
     omega (arith, few s.names (length c.args.label.name.now) c.requires.kept.names_sound c.requires.room.name)
 
 pub append-requires : goal.append-requires
 append-requires c = record { sound = c.requires.kept.names_sound; fits = c.requires.room.name }
 
-pub raise-in-requires : goal.raise-in-requires
-raise-in-requires c =
+pub raise_in-requires : goal.raise_in-requires
+raise_in-requires c =
     let s = c.args.self.now in
     record { sound = c.requires.kept.cells_sound; inside = (kept_agrees s c.requires.kept).good.open_one; room = raises s _ _ c.requires.kept c.requires.room }
 
 pub push-requires : goal.push-requires
 push-requires c =
     let s = c.args.self.now in
-    let n : length (items c.raise-in.new.cells) ≡ length (items s.cells) =
-    ap length c.raise-in.ensures.items ∙ length_adjust_at s.innermost more (items s.cells) in
-    let q : room c.raise-in.new.cells ≡ room s.cells = same_room s.cells c.raise-in.new.cells c.raise-in.ensures.sized in
-    record { sound = c.raise-in.ensures.sound; fits = omega (arith, n, q, c.requires.room.one) }
+    let n : length (items c.raise_in.new.cells) ≡ length (items s.cells) =
+    ap length c.raise_in.ensures.items ∙ length_adjust_at s.innermost more (items s.cells) in
+    let q : room c.raise_in.new.cells ≡ room s.cells = same_room s.cells c.raise_in.new.cells c.raise_in.ensures.sized in
+    record { sound = c.raise_in.ensures.sound; fits = omega (arith, n, q, c.requires.room.one) }
 
-pub depth-with-self-requires : goal.depth-with-self-requires
-depth-with-self-requires c = omega (arith, c.requires.room.deep)
+pub depth_with-self-requires : goal.depth_with-self-requires
+depth_with-self-requires c = omega (arith, c.requires.room.deep)
 
 pub returns : goal.returns
 returns c =
@@ -40,14 +40,14 @@ returns c =
     let sort = c.args.sort in
     let before = adjust_at s.innermost more (items s.cells) in
     record {
-      cells = c.push.ensures.items ∙ ap (λ xs. xs ++ (named-from c.count.result ∷ [])) c.raise-in.ensures.items ∙ ap (λ n. before ++ (named-from n ∷ [])) c.count.ensures;
+      cells = c.push.ensures.items ∙ ap (λ xs. xs ++ (named-from c.count.result ∷ [])) c.raise_in.ensures.items ∙ ap (λ n. before ++ (named-from n ∷ [])) c.count.ensures;
       names = c.append.ensures.items;
       points = refl;
-      innermost = c.inside-of-self.ensures ∙ ap (λ n. inside sort n s.innermost) c.count-number.ensures;
-      depth = c.depth-with-self.ensures;
+      innermost = c.inside_of-self.ensures ∙ ap (λ n. inside sort n s.innermost) c.count-number.ensures;
+      depth = c.depth_with-self.ensures;
       cells_sound = c.push.ensures.sound;
       names_sound = c.append.ensures.sound;
-      cells_sized = sized_twice s.cells c.raise-in.new.cells c.push.new.self c.raise-in.ensures.sized c.push.ensures.sized;
+      cells_sized = sized_twice s.cells c.raise_in.new.cells c.push.new.self c.raise_in.ensures.sized c.push.ensures.sized;
       names_sized = c.append.ensures.sized;
     }
   where

@@ -10,8 +10,8 @@ use Rattle.document.specs.Standing.{free_points}
 use Rattle.document.proofs.Adding.{roomy, nothing_less, celled_grown}
 use Rattle.document.proofs.store.Store.add_text.Goals as goal
 
-pub add-cell-requires : goal.add-cell-requires
-add-cell-requires c =
+pub add_cell-requires : goal.add_cell-requires
+add_cell-requires c =
     let s = c.args.self.now in
     let b = put (text c.args.kind c.args.head (take c.args.count (free_points s))) in
     record { kept = c.requires.kept; room = nothing_less s _ _ (roomy s (tag c.args.label) b c.requires.kept c.requires.lawful) }
@@ -21,7 +21,7 @@ extend-requires c =
     let s = c.args.self.now in
     let b = put (text c.args.kind c.args.head (take c.args.count (free_points s))) in
     let r = roomy s (tag c.args.label) b c.requires.kept c.requires.lawful in
-    let same = c.add-cell.ensures.points in
+    let same = c.add_cell.ensures.points in
     record {
       sound = subst Sound (sym same) c.requires.kept.points_sound;
       fits = subst (λ (p : Pile ℕ). length (items p) + c.args.count ≤ room p) (sym same) (subst (λ n. length (items s.codepoints) + n ≤ room s.codepoints) c.requires.counted r.point);
@@ -30,13 +30,13 @@ extend-requires c =
 pub returns : goal.returns
 returns c =
     let s = c.args.self.now in
-    let u = c.add-cell.new.self in
-    let same = c.add-cell.ensures.points in
+    let u = c.add_cell.new.self in
+    let same = c.add_cell.ensures.points in
     let ps = take c.args.count (free_points s) in
     let b : Begun = put (text c.args.kind c.args.head ps) in
     let t : Store = record { cells = u.cells; codepoints = c.extend.new.self; names = u.names; innermost = u.innermost; depth = u.depth } in
     let made : ℕ → ℕ → Sort = λ start len. Text c.args.kind c.args.head (record { start = start; len = len }) in
     celled_grown s u t (tag c.args.label) b (made c.count.result c.args.count) c.requires.kept c.requires.lawful
-    (ap (λ n. made n c.args.count) c.count.ensures ∙ ap (made (length (items s.codepoints))) (sym c.requires.counted)) c.add-cell.ensures refl refl refl refl
+    (ap (λ n. made n c.args.count) c.count.ensures ∙ ap (made (length (items s.codepoints))) (sym c.requires.counted)) c.add_cell.ensures refl refl refl refl
     c.extend.ensures.sound (subst (λ (p : Pile ℕ). Sized p t.codepoints) same c.extend.ensures.sized)
     (c.extend.ensures.items ∙ ap (λ (p : Pile ℕ). items p ++ take c.args.count (free p)) same)

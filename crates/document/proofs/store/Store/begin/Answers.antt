@@ -10,6 +10,6 @@ returns c =
     record {
       kept = c.add.ensures.kept;
       memory = c.add.ensures.memory;
-      law = (sym c.in-ok-check.ensures, c.count-number.ensures ∙ value_count (standing s) (in_use s) (kept_agrees s c.requires), c.add.ensures.told);
+      law = (sym c.in_ok-check.ensures, c.count-number.ensures ∙ value_count (standing s) (in_use s) (kept_agrees s c.requires), c.add.ensures.told);
       still = tt;
     }

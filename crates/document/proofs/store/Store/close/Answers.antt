@@ -16,13 +16,13 @@ pub get-holder-requires : goal.get-holder-requires
 get-holder-requires c =
     record { sound = c.requires.cells_sound; within = (ready c.args.self.now c.in-At.number c.requires c.in-At.is).within }
 
-pub overflow-sub-last : goal.overflow-sub-last
-overflow-sub-last c =
+pub overflow_sub-last : goal.overflow_sub-last
+overflow_sub-last c =
     let r = ready c.args.self.now c.in-At.number c.requires c.in-At.is in
     omega (arith, r.within, c.count-last.ensures)
 
-pub add-close-in-requires : goal.add-close-in-requires
-add-close-in-requires c =
+pub add_close_in-requires : goal.add_close_in-requires
+add_close_in-requires c =
     let s = c.args.self.now in
     let r = ready s c.in-At.number c.requires c.in-At.is in
     let u = uses s.cells c.requires.cells_sound in
@@ -33,8 +33,8 @@ add-close-in-requires c =
       room = subst (λ n. (cell_at (items s.cells) (n - 1)).closes + 1 < 2 ^ 32) (sym c.count-last.ensures) f;
     }
 
-pub overflow-sub-self : goal.overflow-sub-self
-overflow-sub-self c =
+pub overflow_sub-self : goal.overflow_sub-self
+overflow_sub-self c =
     let r = ready c.args.self.now c.in-At.number c.requires c.in-At.is in
     omega (arith, r.deep)
 
@@ -43,9 +43,9 @@ returns-in-At c =
     let s = c.args.self.now in
     let r = ready s c.in-At.number c.requires c.in-At.is in
     let t : Store =
-    record { cells = c.add-close-in.new.cells; codepoints = s.codepoints; names = s.names; innermost = c.get-holder.result.holder; depth = s.depth - 1 } in
+    record { cells = c.add_close_in.new.cells; codepoints = s.codepoints; names = s.names; innermost = c.get-holder.result.holder; depth = s.depth - 1 } in
     let is =
-    closed_in_use (in_use s) (in_use t) c.in-At.number c.count-last.result c.in-At.is c.count-last.ensures c.add-close-in.ensures.items refl refl
+    closed_in_use (in_use s) (in_use t) c.in-At.number c.count-last.result c.in-At.is c.count-last.ensures c.add_close_in.ensures.items refl refl
     (ap (λ x. x.holder) (c.get-holder.ensures blank)) refl in
-    let g = grown s t close c.requires r.lawful is c.add-close-in.ensures.sound c.requires.points_sound c.requires.names_sound c.add-close-in.ensures.sized (refl, refl) (refl, refl) in
+    let g = grown s t close c.requires r.lawful is c.add_close_in.ensures.sound c.requires.points_sound c.requires.names_sound c.add_close_in.ensures.sized (refl, refl) (refl, refl) in
     record { kept = g.kept; memory = g.memory; law = (r.lawful, refl, g.told); still = tt }

@@ -10,4 +10,4 @@ returns-in-Root c = in_root c.args.self.now c.requires c.in-Root.is
 
 pub returns-in-At : goal.returns-in-At
 returns-in-At c =
-    in_at c.args.self.now c.in-At.number c.is-object.result c.get.result c.requires c.in-At.is c.is-object.ensures (c.get.ensures blank)
+    in_at c.args.self.now c.in-At.number c.is_object.result c.get.result c.requires c.in-At.is c.is_object.ensures (c.get.ensures blank)

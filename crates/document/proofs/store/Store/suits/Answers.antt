@@ -7,7 +7,7 @@ use Rattle.document.proofs.store.Store.suits.Goals as goal
 
 pub returns-then-number-count : goal.returns-then-number-count
 returns-then-number-count c =
-    suits_at c.args.self.now c.in-At.number c.args.family c.sort-suits.result c.get.result c.requires (omega (arith, c.count.ensures)) c.sort-suits.ensures
+    suits_at c.args.self.now c.in-At.number c.args.family c.sort_suits.result c.get.result c.requires (omega (arith, c.count.ensures)) c.sort_suits.ensures
     (c.get.ensures blank)
     ∙ ap (λ t. suits (values (standing c.args.self.now)) t c.args.family) (sym c.in-At.is)
 

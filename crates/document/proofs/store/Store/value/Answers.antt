@@ -14,12 +14,12 @@ part-codepoints-requires c =
     record {
       sound = c.requires.points_sound;
       within =
-          subst (λ x. x.start + x.len ≤ length (items s.codepoints)) (sym c.span-of-span.ensures)
+          subst (λ x. x.start + x.len ≤ length (items s.codepoints)) (sym c.span_of-span.ensures)
           (span_within s c.args.number c.get-sort.result c.requires (omega (arith, c.count.ensures)) (c.get-sort.ensures blank));
     }
 
 pub returns : goal.returns
 returns c =
     let s = c.args.self.now in
-    begun_read s c.args.number c.get-sort.result (begun c.item-of.result) c.part-codepoints.result.now c.requires (omega (arith, c.count.ensures)) (c.get-sort.ensures blank)
-    (c.part-codepoints.ensures ∙ ap (λ x. part x (items s.codepoints)) c.span-of-span.ensures) c.item-of.ensures
+    begun_read s c.args.number c.get-sort.result (begun c.item_of.result) c.part-codepoints.result.now c.requires (omega (arith, c.count.ensures)) (c.get-sort.ensures blank)
+    (c.part-codepoints.ensures ∙ ap (λ x. part x (items s.codepoints)) c.span_of-span.ensures) c.item_of.ensures

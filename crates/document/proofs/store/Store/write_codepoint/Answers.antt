@@ -10,8 +10,8 @@ use Rattle.document.proofs.Checked.{kept_agrees}
 use Rattle.document.proofs.Adding.{same_built, same_memory, keeps}
 use Rattle.document.proofs.store.Store.write_codepoint.Goals as goal
 
-pub write-free-requires : goal.write-free-requires
-write-free-requires c =
+pub write_free-requires : goal.write_free-requires
+write_free-requires c =
     let s = c.args.self.now in
     let k = c.requires.kept in
     let q : room s.codepoints ≡ usable (memory_lent s) points = ap (min (lent s.codepoints)) k.points_bound in
@@ -21,8 +21,8 @@ pub returns : goal.returns
 returns c =
     let s = c.args.self.now in
     let k = c.requires.kept in
-    let w = c.write-free.ensures in
-    let t : Store = record { cells = s.cells; codepoints = c.write-free.new.self; names = s.names; innermost = s.innermost; depth = s.depth } in
+    let w = c.write_free.ensures in
+    let t : Store = record { cells = s.cells; codepoints = c.write_free.new.self; names = s.names; innermost = s.innermost; depth = s.depth } in
     let is : in_use t ≡ in_use s = same_built (in_use t) (in_use s) refl w.items refl refl refl in
     let q : room s.codepoints ≡ usable (memory_lent s) points = ap (min (lent s.codepoints)) k.points_bound in
     let f = fits s.codepoints (c.args.at + 1) k.points_sound (omega (arith, q, (kept_agrees s k).points_used, c.requires.fits)) in

@@ -5,8 +5,8 @@ use Rattle.gillsieve.proofs.draft.Draft.close.Goals as goal
 pub close-result-requires : goal.close-result-requires
 close-result-requires c = kept_of _ c.args.self.now.kept
 
-pub invariant-of-self : goal.invariant-of-self
-invariant-of-self c = (∣ c.close-result.ensures.kept ∣₁, tt)
+pub invariant_of-self : goal.invariant_of-self
+invariant_of-self c = (∣ c.close-result.ensures.kept ∣₁, tt)
 
 pub returns : goal.returns
 returns c = did_close _ _ c.close-result.result c.answer.result c.answer.ensures c.close-result.ensures

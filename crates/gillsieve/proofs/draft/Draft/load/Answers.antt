@@ -5,8 +5,8 @@ use Rattle.gillsieve.proofs.draft.Draft.load.Goals as goal
 pub load-requires : goal.load-requires
 load-requires c = kept_of _ c.args.self.now.kept
 
-pub invariant-of-self : goal.invariant-of-self
-invariant-of-self c = (∣ c.load.ensures.kept ∣₁, tt)
+pub invariant_of-self : goal.invariant_of-self
+invariant_of-self c = (∣ c.load.ensures.kept ∣₁, tt)
 
 pub returns : goal.returns
 returns c = did_load _ _ _ _ c.load.ensures

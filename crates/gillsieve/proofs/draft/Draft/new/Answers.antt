@@ -1,4 +1,4 @@
 use Rattle.gillsieve.proofs.draft.Draft.new.Goals as goal
 
-pub invariant-of-result : goal.invariant-of-result
-invariant-of-result c = (∣ c.new-store.ensures.kept ∣₁, tt)
+pub invariant_of-result : goal.invariant_of-result
+invariant_of-result c = (∣ c.new-store.ensures.kept ∣₁, tt)

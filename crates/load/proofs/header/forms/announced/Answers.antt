@@ -62,6 +62,6 @@ pub returns-in-32 : goal.returns-in-32
 unfolding announced
 returns-in-32 c = search rules
 
-pub returns-in-default : goal.returns-in-default
+pub returns-in_default : goal.returns-in_default
 unfolding announced
-returns-in-default c = search rules
+returns-in_default c = search rules

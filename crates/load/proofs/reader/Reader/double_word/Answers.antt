@@ -10,8 +10,8 @@ pub returns : goal.returns
 returns c =
     let f = c.args.self.now.file.now in
     let p = c.args.self.now.place in
-    let low : c.from-le-bytes-low.result ≡ four_at f p = search rules in
-    let high : c.from-le-bytes-high.result ≡ next_four f p = search rules in
+    let low : c.from_le_bytes-low.result ≡ four_at f p = search rules in
+    let high : c.from_le_bytes-high.result ≡ next_four f p = search rules in
     let n = number_eight f p (omega arith) in
-    let fits : number (take 8 (drop p f)) < 18446744073709551616 = rw n (omega (arith, c.from-le-bytes-high.type-inv, c.from-le-bytes-low.type-inv)) in
+    let fits : number (take 8 (drop p f)) < 18446744073709551616 = rw n (omega (arith, c.from_le_bytes-high.type-inv, c.from_le_bytes-low.type-inv)) in
     record { file = refl; ran = λ e. rw (high, low, ← n, ← drop-drop 8 p f) (below_got f p c.args.self.now.within _ 8 _ _ e (omega arith) fits) }

@@ -8,37 +8,37 @@ use Rattle.load.proofs.Headings.{heading_starts}
 use Rattle.load.proofs.Then.{ran_by}
 use Rattle.load.proofs.reader.Reader.heading.Goals as goal
 
-pub returns-in-err-header : goal.returns-in-err-header
+pub returns-in_err-header : goal.returns-in_err-header
 unfolding after
-returns-in-err-header c =
+returns-in_err-header c =
     let p = err_from_is_err_and c.from-residual.result c.from-residual.ensures.1 in
     rw (p.1, p.2) (record {
-      file = c.in-err-header.ensures.file;
-      ran = λ s q e. heading_starts s _ e ∙ rw (q, c.in-err-header.ensures.ran e);
+      file = c.in_err-header.ensures.file;
+      ran = λ s q e. heading_starts s _ e ∙ rw (q, c.in_err-header.ensures.ran e);
     })
 
 pub returns-then-header-eq0 : goal.returns-then-header-eq0
 unfolding after
 returns-then-header-eq0 c =
     let r = c.args.self.now in
-    let w = c.in-ok-header.ensures in
-    let z : eqb (c.in-ok-header.header % 256) 0 ≡ true = grind (arith, nat_tests) in
+    let w = c.in_ok-header.ensures in
+    let z : eqb (c.in_ok-header.header % 256) 0 ≡ true = grind (arith, nat_tests) in
     record {
-      file = c.behind-padding.ensures.file ∙ w.file;
-      ran = λ s q. ran_by (heading s) (behind_padding s r.place c.in-ok-header.header) (rest_of r) (rest_of c.any-word.new.self) _ _
+      file = c.behind_padding.ensures.file ∙ w.file;
+      ran = λ s q. ran_by (heading s) (behind_padding s r.place c.in_ok-header.header) (rest_of r) (rest_of c.any_word.new.self) _ _
           (λ e. heading_starts s _ e ∙ rw (q, place_at r.file.now r.place r.within, w.ran e, z))
-          (c.behind-padding.ensures.ran s (q ∙ ap (λ (x : _). length x.now) (sym w.file)));
+          (c.behind_padding.ensures.ran s (q ∙ ap (λ (x : _). length x.now) (sym w.file)));
     }
 
 pub returns-else-header-eq0 : goal.returns-else-header-eq0
 unfolding after
 returns-else-header-eq0 c =
     let r = c.args.self.now in
-    let w = c.in-ok-header.ensures in
-    let z : eqb (c.in-ok-header.header % 256) 0 ≡ false = grind (arith, nat_tests) in
+    let w = c.in_ok-header.ensures in
+    let z : eqb (c.in_ok-header.header % 256) 0 ≡ false = grind (arith, nat_tests) in
     record {
       file = w.file;
-      ran = λ s q. ran_by (heading s) (heading_of s r.place c.in-ok-header.header) (rest_of r) (rest_of c.any-word.new.self) _ _
+      ran = λ s q. ran_by (heading s) (heading_of s r.place c.in_ok-header.header) (rest_of r) (rest_of c.any_word.new.self) _ _
           (λ e. heading_starts s _ e ∙ rw (q, place_at r.file.now r.place r.within, w.ran e, z))
-          (c.heading-of.ensures s _);
+          (c.heading_of.ensures s _);
     }

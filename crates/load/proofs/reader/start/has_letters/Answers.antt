@@ -14,5 +14,5 @@ agree false true xs ys p q = p.1 (sym (q.0 search rules))
 pub returns : goal.returns
 unfolding same
 returns c =
-    let d = slice_eq-Decides Decides-eqb _ _ _ c.starts-with.ensures.value in
+    let d = slice_eq-Decides Decides-eqb _ _ _ c.starts_with.ensures.value in
     agree _ _ _ _ d (compares_Decides same (search rules) (take 6 c.args.file.now) letters)

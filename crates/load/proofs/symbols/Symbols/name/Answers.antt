@@ -15,10 +15,10 @@ returns-then-index-self c = sym (name_out c.args.self.strings.now c.args.self.of
 
 pub returns-in-Some : goal.returns-in-Some
 returns-in-Some c =
-    named c.args.self.strings.now c.args.self.offsets.now c.args.index c.span.result c.number-at-offset.result _ c.span.ensures c.number-at-offset.ensures c.in-Some.ensures
+    named c.args.self.strings.now c.args.self.offsets.now c.args.index c.span.result c.number_at-offset.result _ c.span.ensures c.number_at-offset.ensures c.in-Some.ensures
     ∙ sym (name_in c.args.self.strings.now c.args.self.offsets.now (length c.args.self.offsets.now / 4) c.args.index (omega arith))
 
 pub returns-in-None : goal.returns-in-None
 returns-in-None c =
-    named c.args.self.strings.now c.args.self.offsets.now c.args.index c.span.result c.number-at-offset.result _ c.span.ensures c.number-at-offset.ensures c.in-None.ensures
+    named c.args.self.strings.now c.args.self.offsets.now c.args.index c.span.result c.number_at-offset.result _ c.span.ensures c.number_at-offset.ensures c.in-None.ensures
     ∙ sym (name_in c.args.self.strings.now c.args.self.offsets.now (length c.args.self.offsets.now / 4) c.args.index (omega arith))

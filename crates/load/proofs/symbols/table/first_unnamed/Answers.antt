@@ -16,4 +16,4 @@ named strings offsets i at v o ea ev eo h = rw (← ea, ← ev, ← eo) (some o 
 pub loop-i-preserved : goal.loop-i-preserved
 loop-i-preserved c =
     below_more (λ (j : ℕ). is_some (name_at c.args.strings.now (entry 4 j c.args.offsets.now)) ≡ true) c.loop-i.i c.loop-i.invariant
-    (named _ _ c.loop-i.i c.span.result c.number-at-offset.result c.name-at.result c.span.ensures c.number-at-offset.ensures c.name-at.ensures c.if-is-none.ensures)
+    (named _ _ c.loop-i.i c.span.result c.number_at-offset.result c.name_at.result c.span.ensures c.number_at-offset.ensures c.name_at.ensures c.if-is_none.ensures)

@@ -1,6 +1,5 @@
-use Rattle.std.proofs.Common.{◌+◌, ◌<◌, ◌≤◌, length, refl, arith}
+use Rattle.std.proofs.Common.{◌+◌, refl, arith}
 use Rattle.std.proofs.lemmas.List.{length-set, take-set-le, drop-set-add}
-use Rattle.steps.proofs.Piled.{fits}
 use Rattle.steps.proofs.pile.Pile.write_free.Goals as goal
 
 pub returns : goal.returns
