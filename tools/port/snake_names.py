@@ -13,7 +13,7 @@ import re
 TOKEN = re.compile(r"(?<![\w'◌-])[A-Za-z][\w'₀-₉]*(?:-[\w'₀-₉]+)+(?![\w'◌-])")
 USE = re.compile(r"^(?:ghost )?(?:pub )?use ([\w.'+-]+)\.\{([^}]*)\}", re.M)
 FIELD = re.compile(r"^  pub ([\w'-]+) :", re.M)
-OUTSIDE = ("Rattle.std", "Rattle.core", "mathlib", "lib", "Prim", "native", "denote", "borrow", "logic")
+OUTSIDE = ("Rattle.std", "Rattle.core", "mathlib", "base", "lib", "Prim", "native", "denote", "borrow", "logic")
 
 
 def snake(name):

@@ -1,5 +1,5 @@
 -- A step added to a store.
-use Rattle.std.proofs.Common.{◌≡◌, ℕ, ◌+◌, ◌-◌, ◌^◌, ◌<◌, ◌≤◌, min, Bool, true, false, ◌&&◌, ltb, leb, List, [], ◌∷◌, ◌++◌, length, Some, None, Option, sym, refl, ap, ◌∙◌, subst, arith}
+use Rattle.std.proofs.Common.{◌≡◌, ℕ, ◌+◌, ◌^◌, ◌<◌, ◌≤◌, min, Bool, true, false, ltb, leb, List, [], ◌∷◌, ◌++◌, length, None, Option, sym, refl, ap, ◌∙◌, subst, arith}
 use Rattle.std.proofs.lemmas.Bool.{ltb-true, leb-true, and_parts}
 use Rattle.refusal.specs.declared.Reason.{Reason}
 use Rattle.refusal.specs.declared.Reason.TheVariants.{TooDeep, NoMemory, NotAllowed, BadName}
@@ -10,16 +10,16 @@ use Rattle.steps.specs.declared.parts.Sort.TheVariants.{Nothing, Logic, Char, In
 use Rattle.steps.specs.declared.parts.Cell.{Cell}
 use Rattle.steps.specs.declared.pile.Pile.{Pile}
 use Rattle.document.specs.declared.store.Store.{Store}
-use Rattle.steps.specs.Steps.{Tag, Begun, Step, begin, close, Steps}
+use Rattle.steps.specs.Steps.{Tag, Begun, Step, begin, Steps}
 use Rattle.steps.specs.Outline.{values, opened}
 use Rattle.steps.specs.Law.{Memory, so_much, usable, cells, points, names, used, deepest, unless, has_room, need, name_ok, begun_ok, refusal, codepoints_of}
 use Rattle.steps.specs.Items.{items, lent, room, Sound, Sized}
-use Rattle.steps.specs.Build.{Built, more, adjust_at, sort_of, new_cell, inside, deeper, apply, count_in, cell_at, blank, Under, Raisable}
+use Rattle.steps.specs.Build.{Built, more, adjust_at, sort_of, inside, deeper, apply, count_in, blank, Under, Raisable}
 use Rattle.document.specs.Standing.{in_use, standing, memory_lent, Stands, Kept, Grown, Roomy, next_cell, Celled}
 use Rattle.steps.proofs.Told.{SortFine, CellFine}
 use Rattle.steps.proofs.Good.{each_at}
 use Rattle.steps.proofs.Piled.{uses, fits}
-use Rattle.document.proofs.Agreed.{Added, added}
+use Rattle.document.proofs.Agreed.{added}
 use Rattle.document.proofs.Checked.{kept_agrees}
 
 abbrev pub built : List Cell → List ℕ → List ℕ → Node → ℕ → Built

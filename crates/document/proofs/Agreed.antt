@@ -1,15 +1,14 @@
 -- The memory that lawful steps build agrees with their outline, and tells of just those steps.
-use Rattle.std.proofs.Common.{◌≡◌, ℕ, zero, suc, ◌+◌, ◌-◌, ◌<◌, ◌≤◌, Bool, true, false, ltb, List, [], ◌∷◌, ◌++◌, length, Some, None, Option, sym, refl, ap, ◌∙◌, subst, arith}
+use Rattle.std.proofs.Common.{◌≡◌, ℕ, ◌+◌, ◌-◌, ◌<◌, true, ltb, List, [], ◌∷◌, ◌++◌, length, None, sym, refl, ap, ◌∙◌, subst, arith}
 use mathlib.Core.List.{tail}
 use Rattle.std.proofs.lemmas.List.{length-append}
 use Rattle.refusal.specs.declared.Reason.TheVariants.{NothingThere}
 use Rattle.steps.specs.declared.parts.Node.{Node}
-use Rattle.steps.specs.declared.parts.Node.TheVariants.{Root, At}
 use Rattle.steps.specs.declared.parts.Cell.{Cell}
 use Rattle.steps.specs.Steps.{Tag, none, logic, char, integer, float, text, Begun, put, open', share, Step, begin, close, Steps}
 use Rattle.steps.specs.Outline.{Entry, Opened, innermost, opening, values, opened, entry_at}
 use Rattle.steps.specs.Law.{Memory, cells, points, names, used, codepoints_of, refusal, unless, Lawful}
-use Rattle.steps.specs.Build.{Built, more, shut, adjust_at, sort_of, new_cell, apply, build, inside, deeper, holder_at, cell_at, part, begun_of, entry_of, steps}
+use Rattle.steps.specs.Build.{Built, more, shut, adjust_at, sort_of, new_cell, apply, build, inside, deeper, holder_at, cell_at, entry_of, steps}
 use Rattle.document.specs.Standing.{Stands}
 use Rattle.steps.proofs.Adjusted.{length_adjust, length_adjust_at}
 use Rattle.steps.proofs.Told.{entries, tell_push, tell_adjust_at, tell_shut, tell_grow, entries_push, entries_adjust, entries_adjust_at, entries_grow, part_end, begun_end}

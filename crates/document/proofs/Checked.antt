@@ -1,19 +1,17 @@
 -- What a store's checks read off its cells.
-use Rattle.std.proofs.Common.{◌≡◌, ℕ, ◌+◌, ◌<◌, ◌≤◌, min, Bool, true, false, ◌&&◌, ltb, leb, List, [], ◌∷◌, length, Some, None, Option, sym, refl, ap, ◌∙◌, subst, arith}
+use Rattle.std.proofs.Common.{◌≡◌, ℕ, ◌+◌, ◌<◌, ◌≤◌, min, Bool, true, false, ◌&&◌, ltb, leb, List, [], ◌∷◌, length, sym, refl, ap, ◌∙◌, subst, arith}
 use Rattle.std.proofs.lemmas.Bool.{lt-ltb, le-ltb}
-use Rattle.refusal.specs.declared.Reason.TheVariants.{TooDeep, NoMemory, NothingThere, BadName, NotAllowed}
 use Rattle.steps.specs.declared.parts.Family.{Family}
-use Rattle.steps.specs.declared.parts.Node.{Node}
 use Rattle.steps.specs.declared.parts.Node.TheVariants.{Root, At}
 use Rattle.steps.specs.declared.parts.Sort.{Sort}
 use Rattle.steps.specs.declared.parts.Sort.TheVariants.{Nothing, Logic, Char, Integer, Float, Text, Open, Share}
 use Rattle.steps.specs.declared.parts.Cell.{Cell}
 use Rattle.document.specs.declared.store.Store.{Store}
-use Rattle.steps.specs.Steps.{open', Tag, Begun, begin, Steps}
+use Rattle.steps.specs.Steps.{open'}
 use Rattle.steps.specs.Outline.{Entry, Opened, innermost, in_object, values, opened, entry_at, begun_at, own_family, begun_suits, has_family}
-use Rattle.steps.specs.Law.{Memory, so_much, usable, cells, points, names, used, deepest, has_room, need, name_ok, begun_ok, refusal}
+use Rattle.steps.specs.Law.{so_much, usable, cells, points, names, used, deepest, has_room}
 use Rattle.steps.specs.Items.{items, room}
-use Rattle.steps.specs.Build.{begun_of, entry_of, cell_at, Under, sort_suits, sort_is_object, begun_object, steps}
+use Rattle.steps.specs.Build.{begun_of, entry_of, cell_at, Under, sort_suits, sort_is_object, begun_object}
 use Rattle.document.specs.Standing.{in_use, standing, memory_lent, Kept}
 use Rattle.steps.proofs.Told.{entries}
 use Rattle.steps.proofs.Entered.{Linked, linked, length_entries, entry_cell, entry_none, begun_entry, begun_in}

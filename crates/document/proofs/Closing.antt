@@ -2,7 +2,6 @@
 use Rattle.std.proofs.Common.{◌≡◌, ℕ, ◌+◌, ◌-◌, ◌<◌, ◌≤◌, true, ltb, List, [], ◌∷◌, length, Some, None, sym, refl, ap, ◌∙◌, subst, arith}
 use Rattle.std.proofs.lemmas.Bool.{lt-ltb}
 use Rattle.refusal.specs.declared.Reason.TheVariants.{NothingThere}
-use Rattle.steps.specs.declared.parts.Node.{Node}
 use Rattle.steps.specs.declared.parts.Node.TheVariants.{Root, At}
 use Rattle.document.specs.declared.store.Store.{Store}
 use Rattle.steps.specs.Adjust.{adjust}
@@ -10,8 +9,8 @@ use Rattle.steps.specs.Steps.{close}
 use Rattle.steps.specs.Outline.{Opened, innermost, opened}
 use Rattle.steps.specs.Law.{unless, refusal}
 use Rattle.steps.specs.Items.{items}
-use Rattle.steps.specs.Build.{Built, shut, apply, holder_at, cell_at, last, Under}
-use Rattle.document.specs.Standing.{in_use, standing, memory_lent, Kept}
+use Rattle.steps.specs.Build.{Built, shut, apply, holder_at, cell_at, last}
+use Rattle.document.specs.Standing.{standing, memory_lent, Kept}
 use Rattle.steps.proofs.Good.{Deep}
 use Rattle.document.proofs.Checked.{kept_agrees, open_under}
 use Rattle.document.proofs.Adding.{same_built}

@@ -1,5 +1,5 @@
 -- Each opened value's cell counts its inner values.
-use Rattle.std.proofs.Common.{◌≡◌, ℕ, zero, suc, ◌+◌, ◌-◌, ◌<◌, ◌≤◌, Bool, true, false, cond, eqb, List, [], ◌∷◌, ◌++◌, length, get_or, Some, None, sym, refl, ap, ◌∙◌, subst, ⊎_elim, arith, length-append}
+use Rattle.std.proofs.Common.{◌≡◌, ℕ, zero, suc, ◌+◌, ◌-◌, ◌<◌, ◌≤◌, true, false, List, [], ◌∷◌, ◌++◌, length, Some, sym, refl, ap, ◌∙◌, subst, ⊎_elim, arith, length-append}
 use Rattle.std.proofs.lemmas.List.{append-nil, get_or_append_left, get_or_at}
 use Rattle.std.proofs.lemmas.Bool.{eq-eqb, ne_eqb, cases_eq}
 use Rattle.steps.specs.declared.parts.Node.{Node}
@@ -10,7 +10,7 @@ use Rattle.steps.specs.declared.parts.Sort.TheVariants.{Nothing, Logic, Char, In
 use Rattle.steps.specs.declared.parts.Cell.{Cell}
 use Rattle.document.specs.declared.store.Store.{Store}
 use Rattle.steps.specs.Adjust.{adjust}
-use Rattle.steps.specs.Steps.{Tag, none, logic, char, integer, float, text, Begun, put, open', share, begin, close, Steps}
+use Rattle.steps.specs.Steps.{none, logic, char, integer, float, text, Begun, put, open', share, begin, close, Steps}
 use Rattle.steps.specs.Outline.{Entry, Opened, innermost, values, opened, begun_at, same_holder, inner_names}
 use Rattle.steps.specs.Law.{Memory, Lawful}
 use Rattle.steps.specs.Items.{items}
@@ -19,9 +19,8 @@ use Rattle.steps.proofs.Adjusted.{length_adjust, length_adjust_at}
 use Rattle.steps.proofs.Entered.{Linked, linked, begun_entry, begun_in}
 use Rattle.steps.proofs.Good.{at_adjust}
 use Rattle.document.specs.Standing.{in_use, standing, memory_lent, Kept}
-use Rattle.document.proofs.Agreed.{Agrees, value_count, agrees_build}
-use Rattle.document.proofs.Checked.{kept_agrees}
-use Rattle.document.proofs.Reading.{count_is, read_at}
+use Rattle.document.proofs.Agreed.{value_count, agrees_build}
+use Rattle.document.proofs.Reading.{read_at}
 
 -- the count of an opened value's cell is this
 abbrev pub Counts : Sort → ℕ → Type 0

@@ -1,5 +1,5 @@
 -- A step taken back.
-use Rattle.std.proofs.Common.{◌≡◌, ℕ, zero, suc, ◌+◌, ◌-◌, ◌<◌, ◌≤◌, Bool, true, false, ltb, List, [], ◌∷◌, ◌++◌, length, get_or, take, Some, None, Option, sym, refl, ap, ◌∙◌, subst, arith}
+use Rattle.std.proofs.Common.{◌≡◌, ℕ, zero, suc, ◌+◌, ◌-◌, ◌<◌, ◌≤◌, true, List, [], ◌∷◌, ◌++◌, length, take, sym, refl, ap, ◌∙◌, subst, arith}
 use mathlib.Core.List.{tail}
 use Rattle.std.proofs.lemmas.List.{length-append, take_at, take_all, append-nil}
 use Rattle.std.proofs.lemmas.Bool.{ltb-true}
@@ -12,8 +12,8 @@ use Rattle.document.specs.declared.store.Store.{Store}
 use Rattle.steps.specs.Adjust.{adjust}
 use Rattle.steps.specs.Steps.{Tag, none, logic, char, integer, float, text, Begun, put, open', share, Step, begin, close, Steps}
 use Rattle.steps.specs.Outline.{Opened, innermost, opened}
-use Rattle.steps.specs.Law.{Memory, codepoints_of, deepest, refusal, Lawful}
-use Rattle.steps.specs.Items.{items, Sound, Sized}
+use Rattle.steps.specs.Law.{Memory, codepoints_of, deepest, Lawful}
+use Rattle.steps.specs.Items.{Sound, Sized}
 use Rattle.steps.specs.Build.{Built, more, less, shut, unshut, more_in, less_in, adjust_at, sort_of, new_cell, inside, deeper, shallower, apply, build, steps, tell, last, holders, ups, cell_at, blank, empty, cut_at, Under}
 use Rattle.document.specs.Standing.{in_use, standing, memory_lent, Stands, Kept, Shrunk}
 use Rattle.steps.proofs.Adjusted.{length_adjust}

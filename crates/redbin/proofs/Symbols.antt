@@ -29,7 +29,7 @@ same_true (a ∷ m) (b ∷ n) h =
 
 index_found : (ms : List Name) (n : Name) → Memᴰ n ms → (index_of ms n < length ms) × (get_or ms (index_of ms n) [] ≡ n)
 unfolding index_of
-index_found [] n h = absurd (Memᴰ.not_nil h)
+index_found [] n h = absurd (Memᴰ.not-nil h)
 index_found (m ∷ ms) n h = go (index_found ms n) (same m n) refl (Memᴰ.cases_cons h)
   where
     go : (Memᴰ n ms → (index_of ms n < length ms) × (get_or ms (index_of ms n) [] ≡ n)) → (b : Bool) → same m n ≡ b → (n ≡ m) ⊎ Memᴰ n ms
@@ -43,7 +43,7 @@ index_found (m ∷ ms) n h = go (index_found ms n) (same m n) refl (Memᴰ.cases
 
 without_has : (m n : Name) (ms : List Name) → (same n m ≡ false) → Memᴰ n ms → Memᴰ n (without m ms)
 unfolding without
-without_has m n [] d h = absurd (Memᴰ.not_nil h)
+without_has m n [] d h = absurd (Memᴰ.not-nil h)
 without_has m n (x ∷ ms) d h = go (without_has m n ms d) (same x m) refl (Memᴰ.cases_cons h)
   where
     go : (Memᴰ n ms → Memᴰ n (without m ms)) → (b : Bool) → same x m ≡ b → (n ≡ x) ⊎ Memᴰ n ms → Memᴰ n (cond b (without m ms) (x ∷ without m ms))

@@ -1,4 +1,4 @@
-use Rattle.std.proofs.Common.{◌≡◌, ℕ, ◌+◌, ◌≤◌, ◌++◌, length, sym, refl, ap, ◌∙◌, subst, arith}
+use Rattle.std.proofs.Common.{ℕ, ◌+◌, ◌≤◌, ◌++◌, length, sym, refl, ap, ◌∙◌, subst, arith}
 use Rattle.document.specs.declared.store.Store.{Store}
 use Rattle.steps.specs.Given.{tag, begun}
 use Rattle.steps.specs.Law.{codepoints_of}

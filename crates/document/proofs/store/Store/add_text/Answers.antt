@@ -1,4 +1,4 @@
-use Rattle.std.proofs.Common.{◌≡◌, ℕ, ◌+◌, ◌≤◌, ◌++◌, length, take, sym, refl, ap, ◌∙◌, subst}
+use Rattle.std.proofs.Common.{ℕ, ◌+◌, ◌≤◌, ◌++◌, length, take, sym, refl, ap, ◌∙◌, subst}
 use Rattle.document.specs.declared.store.Store.{Store}
 use Rattle.steps.specs.declared.pile.Pile.{Pile}
 use Rattle.steps.specs.declared.parts.Sort.{Sort}

@@ -1,4 +1,4 @@
-use Rattle.std.proofs.Common.{◌≡◌, true, false, length, sym, ap, ◌∙◌, arith}
+use Rattle.std.proofs.Common.{length, ap, ◌∙◌, arith}
 use Rattle.steps.specs.Law.{has_room, so_much}
 use Rattle.document.specs.Standing.{standing, memory_lent}
 use Rattle.document.proofs.Checked.{deep_enough, not_deep}

@@ -1,4 +1,4 @@
-use Rattle.std.proofs.Common.{◌≡◌, ◌+◌, ◌-◌, ◌^◌, ◌<◌, ◌≤◌, length, sym, refl, ap, ◌∙◌, subst, arith}
+use Rattle.std.proofs.Common.{◌+◌, ◌-◌, ◌^◌, ◌<◌, sym, refl, ap, subst, arith}
 use Rattle.document.specs.declared.store.Store.{Store}
 use Rattle.steps.specs.Steps.{close}
 use Rattle.steps.specs.Items.{items}
@@ -6,7 +6,7 @@ use Rattle.steps.specs.Build.{blank, cell_at, last}
 use Rattle.document.specs.Standing.{in_use}
 use Rattle.steps.proofs.Piled.{uses}
 use Rattle.document.proofs.Adding.{grown}
-use Rattle.document.proofs.Closing.{nothing_open, Ready, ready, closed_in_use}
+use Rattle.document.proofs.Closing.{nothing_open, ready, closed_in_use}
 use Rattle.document.proofs.store.Store.close.Goals as goal
 
 pub returns-in-Root : goal.returns-in-Root

@@ -1,4 +1,4 @@
-use Rattle.std.proofs.Common.{◌≡◌, ℕ, sym, ap, ◌∙◌, arith}
+use Rattle.std.proofs.Common.{◌≡◌, ℕ, ap, ◌∙◌, arith}
 use Rattle.steps.specs.Build.{blank, count_in}
 use Rattle.document.proofs.Reading.{begun_none}
 use Rattle.document.proofs.Counting.{kept_counts}

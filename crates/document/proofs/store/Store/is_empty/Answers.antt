@@ -2,7 +2,7 @@ use Rattle.std.proofs.Common.{◌≡◌, ℕ, false, eqb, List, [], ◌∷◌, �
 use Rattle.std.proofs.lemmas.Bool.Decides.{nat_tests}
 use Rattle.steps.specs.declared.parts.Cell.{Cell}
 use Rattle.steps.specs.Steps.{Step, Steps}
-use Rattle.steps.specs.Build.{tell, told}
+use Rattle.steps.specs.Build.{tell}
 use Rattle.steps.specs.Items.{items}
 use Rattle.document.specs.Standing.{none_stands}
 use Rattle.document.proofs.store.Store.is_empty.Goals as goal

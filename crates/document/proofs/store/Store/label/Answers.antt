@@ -1,4 +1,4 @@
-use Rattle.std.proofs.Common.{◌≡◌, ◌+◌, ◌<◌, ◌≤◌, length, Some, sym, ap, ◌∙◌, subst, arith}
+use Rattle.std.proofs.Common.{◌+◌, ◌≤◌, length, Some, sym, ap, ◌∙◌, subst, arith}
 use Rattle.steps.specs.Outline.{label_in}
 use Rattle.steps.specs.Items.{items}
 use Rattle.steps.specs.Build.{blank, part}

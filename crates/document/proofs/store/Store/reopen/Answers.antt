@@ -1,4 +1,4 @@
-use Rattle.std.proofs.Common.{◌≡◌, ◌+◌, refl, arith}
+use Rattle.std.proofs.Common.{◌+◌, refl, arith}
 use Rattle.document.specs.declared.store.Store.{Store}
 use Rattle.document.specs.Standing.{in_use, memory_lent}
 use Rattle.document.proofs.Undone.{reopened, shrunk, depth_small}

@@ -1,4 +1,3 @@
-use Rattle.std.proofs.Common.{◌≡◌, sym, refl, arith}
 use Rattle.document.proofs.store.Store.take_back.Goals as goal
 
 pub returns-then-cell-gt0 : goal.returns-then-cell-gt0

@@ -2,10 +2,10 @@ use Rattle.std.proofs.Common.{◌≡◌, ◌+◌, ◌<◌, min, length, take, sy
 use Rattle.std.proofs.lemmas.List.{take_more_set}
 use Rattle.document.specs.declared.store.Store.{Store}
 use Rattle.steps.specs.Law.{points, usable}
-use Rattle.steps.specs.Items.{items, room, lent, free}
+use Rattle.steps.specs.Items.{room, lent, free}
 use Rattle.steps.specs.Build.{steps}
 use Rattle.document.specs.Standing.{in_use, memory_lent, Stands}
-use Rattle.steps.proofs.Piled.{fits, uses}
+use Rattle.steps.proofs.Piled.{fits}
 use Rattle.document.proofs.Checked.{kept_agrees}
 use Rattle.document.proofs.Adding.{same_built, same_memory, keeps}
 use Rattle.document.proofs.store.Store.write_codepoint.Goals as goal
