@@ -1,5 +1,5 @@
 -- The canonical form of lawful closed steps is read back as these steps.
-use Rattle.std.proofs.Common.{◌≡◌, ℕ, ◌+◌, ◌-◌, ◌≤◌, false, not, ◌||◌, eqb, List, [], ◌∷◌, ◌++◌, length, replicate, Ok, sym, refl, ap, ◌∙◌, append-nil, arith, length-append}
+use Rattle.std.proofs.Common.{◌≡◌, ℕ, ◌+◌, ◌≤◌, false, not, ◌||◌, eqb, List, [], ◌∷◌, ◌++◌, length, replicate, Ok, sym, refl, ap, ◌∙◌, append-nil, arith, length-append}
 use Rattle.std.proofs.lemmas.Bool.{le-ltb, or_from}
 use Rattle.steps.specs.Law.{limit, cells, deepest, field_end, Memory, Lawful, Closed}
 use Rattle.steps.specs.Outline.{values, inner_names}

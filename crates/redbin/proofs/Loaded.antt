@@ -1,5 +1,5 @@
 -- What load accepts is lawful, and nothing in it is open.
-use Rattle.std.proofs.Common.{◌≡◌, ℕ, ◌+◌, ◌-◌, Bool, true, false, cond, eqb, List, [], ◌∷◌, length, get_or, drop, replicate, Some, None, Ok, Err, Option, sym, refl, ap, ◌∙◌, arith}
+use Rattle.std.proofs.Common.{◌≡◌, ℕ, ◌+◌, Bool, true, false, cond, eqb, List, [], ◌∷◌, length, get_or, drop, replicate, Some, None, Ok, Err, Option, sym, refl, ap, ◌∙◌, arith}
 use Rattle.steps.specs.Law.{deepest, Memory, Lawful, Closed}
 use Rattle.steps.specs.Outline.{opened}
 use Rattle.steps.specs.Steps.{Steps, Name}

@@ -1,5 +1,5 @@
 -- Steps of a loop that reads one number, or one value, after another: for the proofs of the code.
-use Rattle.std.proofs.Common.{◌≡◌, ℕ, zero, suc, ◌+◌, ◌<◌, List, [], ◌∷◌, ◌++◌, refl, ◌∙◌, arith}
+use Rattle.std.proofs.Common.{◌≡◌, ℕ, zero, suc, ◌<◌, List, [], ◌∷◌, ◌++◌, refl, ◌∙◌, arith}
 use Rattle.steps.specs.Steps.{Name}
 use Rattle.redbin.proofs.Fields.{then}
 use Rattle.redbin.proofs.Got.{came, same_reader, same_value}

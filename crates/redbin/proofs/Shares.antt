@@ -1,5 +1,5 @@
 -- The record of a share is read back as that share.
-use Rattle.std.proofs.Common.{◌≡◌, ℕ, suc, ◌+◌, ◌-◌, ◌^◌, ◌<◌, true, List, [], ◌∷◌, ◌++◌, length, refl, arith, lit<}
+use Rattle.std.proofs.Common.{◌≡◌, ℕ, suc, ◌^◌, ◌<◌, true, List, [], ◌∷◌, ◌++◌, length, refl, arith, lit<}
 use Rattle.std.proofs.lemmas.Bool.{ltb-true}
 use Rattle.steps.specs.Law.{limit, field_end, word_end, cells, need, Memory, has_room, share_ok, used}
 use Rattle.steps.specs.Outline.{Entry, values, suits, share_family, path_to}

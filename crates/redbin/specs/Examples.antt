@@ -1,5 +1,5 @@
 -- Worked examples: files in numbers, and what the definitions make of them.
-use Rattle.std.specs.Prelude.{◌≡◌, ℕ, zero, suc, ◌+◌, true, false, List, [], ◌∷◌, ◌++◌, length, drop, replicate, pos, negsuc, Ok, Err, Result}
+use Rattle.std.specs.Prelude.{◌≡◌, ℕ, zero, suc, true, false, List, [], ◌∷◌, ◌++◌, length, drop, replicate, pos, negsuc, Ok, Err, Result}
 use Rattle.refusal.specs.declared.Part.{Part}
 use Rattle.refusal.specs.declared.Part.TheVariants.{Header, Symbols, Record, Reference, Draft}
 use Rattle.refusal.specs.declared.Refusal.{Refusal}
