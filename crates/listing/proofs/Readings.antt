@@ -1,11 +1,11 @@
 -- A reader takes from a line the pair that it was written for, and from no line a bad pair.
-use Rattle.std.proofs.Common.{◌≡◌, ℕ, ◌+◌, ◌-◌, ◌^◌, ◌<◌, ◌≤◌, Bool, true, false, cond, not, ◌&&◌, eqb, leb, ◌⊎◌, List, [], ◌∷◌, ◌++◌, length, get_or, ℤ, pos, negsuc, Some, None, decimal, Option, sym, refl, ap, ◌∙◌, inl, inr, ⊎_elim, append_assoc, arith, length-append, rules}
+use Rattle.std.proofs.Common.{◌≡◌, ℕ, ◌+◌, ◌^◌, ◌<◌, ◌≤◌, Bool, true, false, not, eqb, leb, ◌⊎◌, List, [], ◌∷◌, ◌++◌, length, get_or, ℤ, pos, negsuc, Some, None, decimal, Option, sym, refl, ap, ◌∙◌, inl, inr, ⊎_elim, append_assoc, arith, length-append, rules}
 use Rattle.std.proofs.lemmas.Fmt.{decimal_nonempty, first_decimal, digits_decimal, digits_value-decimal, decimal_digit}
 use Rattle.std.proofs.lemmas.Str.Parse.{IsNumeralModel, numerals_by_fold}
 use Rattle.std.proofs.lemmas.List.{append-nil}
-use Rattle.std.proofs.lemmas.Bool.{eqb-true, eqb-false, eq-eqb, ne_eqb, and_parts, le-leb, leb-true, both_ways}
-use Rattle.listing.specs.Pairs.{Pair, pair, good, good_name, good_delay, name_byte, digit, every}
-use Rattle.listing.specs.Forms.{Form, Sound, Lacks, newline, delay_text, line, ◌>>=◌, same, after, run, past, canonical, number_on, read_digits, read_delay, if_good, read_line, ended, read_on, read}
+use Rattle.std.proofs.lemmas.Bool.{eq-eqb, ne_eqb, and_parts, leb-true, both_ways}
+use Rattle.listing.specs.Pairs.{Pair, good, good_name, good_delay, name_byte, digit, every}
+use Rattle.listing.specs.Forms.{Form, Sound, Lacks, newline, delay_text, line, ◌>>=◌, same, after, run, past, canonical, number_on, read_delay, read_line, read_on, read}
 
 pub is_true : (b : Bool) → (b ≡ true) ⊎ (b ≡ false)
 is_true true = inl refl

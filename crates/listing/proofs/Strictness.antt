@@ -1,11 +1,10 @@
 -- What is read is good, and the bytes that it is read from are the lines of what is read.
-use Rattle.std.proofs.Common.{◌≡◌, ℕ, ◌^◌, ◌<◌, Bool, true, false, cond, not, ◌&&◌, eqb, ◌⊎◌, List, [], ◌∷◌, ◌++◌, length, get_or, ℤ, pos, negsuc, Some, None, decimal, Option, sym, refl, ap, ◌∙◌, subst, inl, inr, ⊎_elim, append_assoc, arith}
+use Rattle.std.proofs.Common.{◌≡◌, ℕ, ◌<◌, Bool, true, false, cond, not, ◌&&◌, eqb, List, [], ◌∷◌, ◌++◌, length, get_or, ℤ, pos, negsuc, Some, None, decimal, Option, sym, refl, ap, ◌∙◌, subst, ⊎_elim, append_assoc, arith}
 use Rattle.std.specs.List.{AllByRecursion as All}
 use Rattle.std.proofs.lemmas.Fmt.{decimal-digits_value}
-use Rattle.std.proofs.lemmas.List.{append-nil}
 use Rattle.std.proofs.lemmas.Bool.{eqb-true, eq-eqb, and_parts, leb-true, both_ways}
 use Rattle.listing.specs.Pairs.{Pair, pair, good, good_name, good_delay, name_byte, digit, every}
-use Rattle.listing.specs.Forms.{Form, newline, delay_text, line, lines, ◌>>=◌, same, after, run, past, canonical, number_on, read_digits, read_delay, if_good, read_line, ended, read_on, read}
+use Rattle.listing.specs.Forms.{Form, newline, delay_text, line, lines, ◌>>=◌, same, after, run, past, canonical, number_on, read_delay, if_good, read_line, read_on, read}
 use Rattle.listing.proofs.Readings.{is_true, bind_some, own}
 
 -- from a result that is there under a test

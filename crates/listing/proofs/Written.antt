@@ -1,7 +1,7 @@
 -- What bytes hold after one write, and after one more.
-use Rattle.std.proofs.Common.{◌≡◌, ℕ, ◌+◌, ◌-◌, ◌<◌, ◌≤◌, List, [], ◌∷◌, ◌++◌, length, take, drop, set, sym, refl, ap, ◌∙◌, append_assoc, add-one, arith, length-append, rules}
+use Rattle.std.proofs.Common.{◌≡◌, ℕ, ◌+◌, ◌<◌, ◌≤◌, List, [], ◌∷◌, ◌++◌, length, take, drop, set, refl, ap, ◌∙◌, append_assoc, add-one, arith, length-append, rules}
 use borrow.Rule.Slice.PartMut.{put_mid}
-use Rattle.std.proofs.lemmas.List.{drop-drop, places, take_at, drop_at, length-take-le, set_split, same_lists}
+use Rattle.std.proofs.lemmas.List.{drop-drop, places, take_at, length-take-le, set_split, same_lists}
 use Rattle.listing.specs.Buffers.{written}
 
 pub written_putMid : (a k : ℕ) (xs ys zs : List ℕ) → ys ≡ zs → k ≡ length zs → put_mid a k xs ys ≡ written xs a zs

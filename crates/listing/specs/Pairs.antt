@@ -1,5 +1,5 @@
 -- Pairs of a name and a delay, and which of them are good.
-use Rattle.std.specs.Prelude.{ℕ, Bool, true, false, not, ◌&&◌, ◌||◌, List, [], ◌∷◌, length, ℤ, pos, negsuc, ◌==◌, int_le, nat_le, slice_index}
+use Rattle.std.specs.Prelude.{ℕ, Bool, true, not, ◌&&◌, ◌||◌, List, [], ◌∷◌, length, ℤ, pos, negsuc, ◌==◌, int_le, nat_le, slice_index}
 
 pub record Pair : Type 0 where
   pub name : List ℕ

@@ -1,4 +1,4 @@
-use Rattle.std.proofs.Common.{◌≡◌, ap, w32, rules}
+use Rattle.std.proofs.Common.{ap, w32, rules}
 use Rattle.std.proofs.lemmas.Result.{err_from_is_err_and}
 use Rattle.std.proofs.lemmas.Int.{to_z-of_z}
 use Rattle.listing.specs.Pairs.{pair}
@@ -7,7 +7,7 @@ use Rattle.listing.proofs.give_all.Goals as goal
 
 pub returns-in_err-add : goal.returns-in_err-add
 returns-in_err-add g c =
-    let q = err_from_is_err_and c.from-residual.result c.from-residual.ensures.1 in
+    let q = err_from_is_err_and c.from_residual.result c.from_residual.ensures.1 in
     let l = g.L.Listing in
     rw (q.1, q.2) (given_err l.meaning l.holds l.leaves (λ e. pair e.name.now e.delay) c.args.entries.now (Unit {0}) c.loop-e.e-index _ _ _ _ _ _ c.loop-e-test.true (ap (pair _) (to_z-of_z w32 _ (search rules))) c.loop-e.invariant c.in_err-add.ensures.same c.in_err-add.ensures.answer)
 

@@ -1,4 +1,4 @@
-use Rattle.std.proofs.Common.{◌≡◌, length, sym, ap, ◌∙◌, arith, length-append}
+use Rattle.std.proofs.Common.{length, ap, ◌∙◌, arith, length-append}
 use Rattle.listing.proofs.Delays.{delay_below, delay_above}
 use Rattle.listing.proofs.buffer.delay_size.Goals as goal
 

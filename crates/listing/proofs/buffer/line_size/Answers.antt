@@ -2,7 +2,7 @@ use Rattle.std.proofs.Common.{length, ap, arith, w32}
 use Rattle.std.proofs.lemmas.Int.{to_z-of_z}
 use Rattle.listing.specs.Pairs.{pair}
 use Rattle.listing.specs.Forms.{delay_text}
-use Rattle.listing.proofs.Readings.{length_line, parts}
+use Rattle.listing.proofs.Readings.{length_line}
 use Rattle.listing.proofs.buffer.line_size.Goals as goal
 
 pub returns : goal.returns

@@ -1,4 +1,4 @@
-use Rattle.std.proofs.Common.{◌≡◌, ◌+◌, ◌++◌, length, nat_abs, decimal, sym, ap, ◌∙◌, arith, length-append, w32, to_z, of_z}
+use Rattle.std.proofs.Common.{◌+◌, ◌++◌, length, nat_abs, decimal, sym, ap, ◌∙◌, arith, length-append, w32, to_z, of_z}
 use Rattle.listing.specs.Buffers.{written}
 use Rattle.listing.proofs.Delays.{delay_below, delay_above}
 use Rattle.listing.proofs.Written.{upto_more}

@@ -1,7 +1,7 @@
-use Rattle.std.proofs.Common.{◌≡◌, [], ◌∷◌, ◌++◌, length, sym, refl, ap, ◌∙◌, append_assoc, arith, w32, to_z, of_z}
+use Rattle.std.proofs.Common.{[], ◌∷◌, ◌++◌, length, refl, ap, ◌∙◌, append_assoc, arith, w32, to_z, of_z}
 use Rattle.std.proofs.lemmas.Int.{to_z-of_z}
 use Rattle.listing.specs.Pairs.{pair}
-use Rattle.listing.specs.Forms.{line, delay_text}
+use Rattle.listing.specs.Forms.{delay_text}
 use Rattle.listing.specs.Buffers.{written}
 use Rattle.listing.proofs.Readings.{length_line}
 use Rattle.listing.proofs.Written.{upto_more}
