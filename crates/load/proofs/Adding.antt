@@ -1,5 +1,5 @@
 -- What adding a value comes to.
-use Rattle.std.proofs.Common.{◌≡◌, ℕ, ◌%◌, ◌<◌, Bool, true, false, ◌||◌, eqb, ltb, List, ◌∷◌, length, Some, None, Option, sym, refl, ap, ◌∙◌, arith}
+use Rattle.std.proofs.Common.{◌≡◌, ℕ, ◌%◌, ◌<◌, Bool, true, false, ◌||◌, eqb, ltb, List, ◌∷◌, length, Some, None, Option, refl, arith}
 use Rattle.std.proofs.lemmas.Bool.Decides.{nat_tests}
 use Rattle.refusal.specs.declared.Reason.{Reason}
 use Rattle.refusal.specs.declared.Reason.TheVariants.{NoMemory, BadName, NotAllowed, TooDeep, BadType, BadBits, NothingThere}
@@ -9,7 +9,7 @@ use Rattle.steps.specs.declared.parts.Node.{Node}
 use Rattle.steps.specs.declared.parts.Share.{Share}
 use Rattle.steps.specs.Steps.{Steps, Tag, Begun, Content, put, share, open', begin, close}
 use Rattle.steps.specs.Outline.{values, opened}
-use Rattle.steps.specs.Law.{Memory, need, unless, has_room, refusal, name_ok, begun_ok, content_ok, deepest}
+use Rattle.steps.specs.Law.{Memory, need, unless, has_room, refusal, name_ok, begun_ok, deepest}
 use Rattle.redbin.specs.Reading.{Setting, got, refused, because, after, room, push, add, in_memory, here, any_word, refuse_when}
 use Rattle.load.specs.Ran.{state}
 use Rattle.steps.specs.declared.parts.Holder.{Holder}

@@ -1,5 +1,5 @@
 -- What fields come to, by the place in the file.
-use Rattle.std.proofs.Common.{◌≡◌, ℕ, zero, suc, ◌+◌, ◌-◌, ◌*◌, ◌%◌, ◌<◌, ◌≤◌, true, false, cond, eqb, ltb, List, [], ◌∷◌, length, get_or, take, drop, sym, refl, ap, ◌∙◌, arith, length-drop, drop-drop}
+use Rattle.std.proofs.Common.{◌≡◌, ℕ, zero, suc, ◌+◌, ◌-◌, ◌*◌, ◌%◌, ◌<◌, ◌≤◌, true, false, eqb, ltb, List, [], ◌∷◌, length, get_or, take, drop, arith, length-drop, drop-drop}
 use native.Mathlib.Numerals.{unary_clauses}
 use Rattle.std.proofs.lemmas.Bool.Decides.{nat_tests}
 use Rattle.refusal.specs.declared.Part.{Part}
@@ -8,7 +8,7 @@ use Rattle.refusal.specs.declared.Reason.TheVariants.{Short, BadContent}
 use Rattle.refusal.specs.declared.Part.TheVariants.{Record}
 use Rattle.steps.specs.Steps.{Steps}
 use Rattle.redbin.specs.Bytes.{number}
-use Rattle.redbin.specs.Reading.{Read, got, refused, because, after, enough, skip, below, on_boundary, Setting}
+use Rattle.redbin.specs.Reading.{got, refused, because, after, enough, skip, below, on_boundary, Setting}
 use Rattle.load.specs.Ran.{state, piece}
 
 -- the number that four bytes from a place on stand for

@@ -1,13 +1,12 @@
 -- A field that is read, and a value that is added with it.
-use Rattle.std.proofs.Common.{◌≡◌, ℕ, List, length, Ok, Err, Result, sym, refl, ap, ◌∙◌}
+use Rattle.std.proofs.Common.{◌≡◌, ℕ, length, Ok, Err, Result, sym, refl, ap, ◌∙◌}
 use Rattle.refusal.specs.declared.Refusal.{Refusal}
-use Rattle.steps.specs.Steps.{Steps}
 use Rattle.document.specs.declared.store.Store.{Store}
-use Rattle.document.specs.Standing.{standing, memory_lent, Kept}
-use Rattle.redbin.specs.Reading.{Setting, Reads, got, refused, after, ◌>>=◌}
+use Rattle.document.specs.Standing.{standing, Kept}
+use Rattle.redbin.specs.Reading.{Setting, Reads, after, ◌>>=◌}
 use Rattle.load.specs.declared.reader.Reader.{Reader}
-use Rattle.load.specs.Ran.{Did, state, rest_of, size_of}
-use Rattle.load.specs.Filled.{Came, Added, Filled}
+use Rattle.load.specs.Ran.{Did, rest_of, size_of}
+use Rattle.load.specs.Filled.{Added, Filled}
 use Rattle.load.proofs.Then.{came_then}
 
 module _ {A : Type 0} (r s : Reader) (b : Store) (field : ℕ → Reads A) (k : Setting → A → Reads (Unit {0})) where

@@ -1,11 +1,11 @@
 -- What headers come to, by the place in the file.
-use Rattle.std.proofs.Common.{◌≡◌, ℕ, zero, suc, ◌+◌, ◌-◌, ◌%◌, ◌<◌, ◌≤◌, Bool, true, false, cond, not, ◌||◌, eqb, ltb, List, [], ◌∷◌, length, get_or, take, drop, sym, refl, arith, length-drop}
+use Rattle.std.proofs.Common.{◌≡◌, ℕ, zero, suc, ◌-◌, ◌%◌, ◌<◌, ◌≤◌, Bool, true, false, cond, not, ◌||◌, eqb, ltb, List, [], ◌∷◌, length, get_or, take, drop, refl, arith, length-drop}
 use Rattle.std.proofs.lemmas.Bool.Decides.{nat_tests}
-use Rattle.refusal.specs.declared.Reason.TheVariants.{BadType, BadBits, Large}
+use Rattle.refusal.specs.declared.Reason.TheVariants.{BadType, BadBits}
 use Rattle.refusal.specs.declared.Part.TheVariants.{Record}
 use Rattle.steps.specs.Steps.{Steps}
 use Rattle.redbin.specs.Bytes.{number}
-use Rattle.redbin.specs.Reading.{Heading, Setting, Read, got, refused, because, after, here, any_word, refuse_when, heading_of, behind_padding, heading}
+use Rattle.redbin.specs.Reading.{Setting, refused, because, after, here, any_word, refuse_when, heading_of, behind_padding, heading}
 use Rattle.load.specs.Ran.{state}
 
 pub number_one : (f : List ℕ) (p : ℕ) → p < length f → number (take 1 (drop p f)) ≡ get_or f p 0

@@ -1,5 +1,5 @@
 -- What a share's record comes to.
-use Rattle.std.proofs.Common.{◌≡◌, ℕ, ◌-◌, ◌%◌, Bool, true, false, cond, not, eqb, List, length, Some, None, Ok, Err, Option, Result, sym, refl, ap, ◌∙◌, arith}
+use Rattle.std.proofs.Common.{◌≡◌, ℕ, ◌-◌, ◌%◌, Bool, true, false, cond, not, eqb, List, length, Some, None, Ok, Err, Option, Result, refl, ◌∙◌, arith}
 use Rattle.refusal.specs.declared.Refusal.{Refusal}
 use Rattle.refusal.specs.declared.Reason.TheVariants.{BadType, BadBits, BadPath, Large}
 use Rattle.refusal.specs.declared.Part.TheVariants.{Reference}

@@ -1,5 +1,5 @@
 -- What the first bytes of a file come to.
-use Rattle.std.proofs.Common.{◌≡◌, ℕ, Bool, true, false, not, ◌||◌, eqb, ltb, List, length, get_or, take, drop, refl}
+use Rattle.std.proofs.Common.{◌≡◌, ℕ, Bool, true, false, not, ◌||◌, eqb, ltb, List, length, get_or, take, drop}
 use Rattle.refusal.specs.declared.Reason.TheVariants.{NotRedbin, Version, Flags, Large}
 use Rattle.refusal.specs.declared.Part.TheVariants.{Header}
 use Rattle.steps.specs.Steps.{Steps}

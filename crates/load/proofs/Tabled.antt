@@ -1,5 +1,5 @@
 -- What a symbol table comes to.
-use Rattle.std.proofs.Common.{◌≡◌, ℕ, zero, suc, ◌+◌, ◌-◌, ◌*◌, ◌/◌, ◌<◌, ◌≤◌, true, false, List, [], ◌∷◌, length, get_or, take, drop, Some, None, Option, sym, refl, ap, ◌∙◌, suc-mul, arith}
+use Rattle.std.proofs.Common.{◌≡◌, ℕ, zero, suc, ◌+◌, ◌*◌, ◌<◌, ◌≤◌, true, List, [], ◌∷◌, length, get_or, take, drop, Some, None, Option, sym, refl, ap, ◌∙◌, arith}
 use Rattle.refusal.specs.declared.Reason.TheVariants.{BadSymbol, Large}
 use Rattle.refusal.specs.declared.Part.TheVariants.{Symbols}
 use Rattle.steps.specs.Steps.{Steps, Name}

@@ -1,8 +1,8 @@
 -- One reading after another.
-use Rattle.std.proofs.Common.{◌≡◌, ℕ, List, length, Ok, Err, Result, sym, refl, ap, ◌∙◌}
+use Rattle.std.proofs.Common.{◌≡◌, ℕ, List, length, Ok, Err, Result, sym, ap, ◌∙◌}
 use Rattle.refusal.specs.declared.Refusal.{Refusal}
 use Rattle.steps.specs.Steps.{Steps}
-use Rattle.redbin.specs.Reading.{Reads, got, refused, after, here, ◌>>=◌}
+use Rattle.redbin.specs.Reading.{Reads, got, after, here, ◌>>=◌}
 use Rattle.load.specs.declared.reader.Reader.{Reader}
 use Rattle.load.proofs.Fields.{place_at}
 use Rattle.load.specs.Filled.{Came}

@@ -1,11 +1,11 @@
 -- How the values that a holder holds are counted.
-use Rattle.std.proofs.Common.{◌≡◌, ℕ, zero, suc, ◌+◌, ◌-◌, ◌*◌, ◌<◌, ◌≤◌, Bool, true, false, cond, ◌&&◌, eqb, ltb, ◌⊎◌, List, [], ◌∷◌, ◌++◌, length, take, drop, Some, None, Option, sym, refl, ap, ◌∙◌, inl, inr, arith, length-append, drop-drop}
+use Rattle.std.proofs.Common.{◌≡◌, ℕ, zero, suc, ◌+◌, ◌-◌, ◌*◌, ◌<◌, ◌≤◌, Bool, true, false, cond, ◌&&◌, eqb, ltb, ◌⊎◌, List, [], ◌∷◌, ◌++◌, length, take, drop, Some, None, sym, refl, ap, ◌∙◌, inl, inr, arith, length-append, drop-drop}
 use Rattle.std.proofs.lemmas.Bool.Decides.{nat_tests}
 use Rattle.steps.specs.declared.parts.Node.{Node}
-use Rattle.steps.specs.Outline.{Entry, entry_at, holder_in, same_holder, inner, nth, walk, onward, through}
+use Rattle.steps.specs.Outline.{Entry, entry_at, same_holder, inner, nth, walk, onward, through}
 use Rattle.redbin.specs.Bytes.{number}
 use Rattle.load.specs.Runs.{entries}
-use Rattle.load.specs.Paths.{held_by, held}
+use Rattle.load.specs.Paths.{held}
 
 abbrev pub one_if : Bool → ℕ
 one_if b = cond b 1 0

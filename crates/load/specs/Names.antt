@@ -1,5 +1,5 @@
 -- The names of a symbol table.
-use Rattle.std.specs.Prelude.{◌≡◌, ℕ, ◌<◌, ◌≤◌, List, [], ◌∷◌, length, Some, None, Option, slice_index}
+use Rattle.std.specs.Prelude.{◌≡◌, ℕ, ◌<◌, List, length, Some, None, Option, slice_index}
 use Rattle.std.specs.Borrow.{Bor}
 
 -- the bytes that are lent, if any

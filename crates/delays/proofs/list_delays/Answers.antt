@@ -12,7 +12,7 @@ loop-number-init g c =
 
 pub returns-in_err-give_delay : goal.returns-in_err-give_delay
 returns-in_err-give_delay g c =
-    let q = err_from_is_err_and c.from-residual.result c.from-residual.ensures.1 in
+    let q = err_from_is_err_and c.from_residual.result c.from_residual.ensures.1 in
     let l = g.L.Listing in
     rw (q.1, q.2) (given_err l.meaning l.holds l.leaves (values (standing c.args.store.now)) (Unit {0}) c.loop-number.number _ _ _ _ (omega (arith, c.count-number-end.ensures)) c.loop-number.invariant c.in_err-give_delay.ensures)
 

@@ -1,4 +1,3 @@
-use Rattle.std.proofs.Common.{◌≡◌, sym, refl, ap, ◌∙◌}
 use Rattle.steps.specs.Steps.{put}
 use Rattle.steps.specs.Given.{tag, content}
 use Rattle.document.specs.Standing.{standing, memory_lent}

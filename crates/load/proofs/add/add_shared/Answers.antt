@@ -1,4 +1,3 @@
-use Rattle.std.proofs.Common.{◌≡◌, sym, refl, ap, ◌∙◌}
 use Rattle.steps.specs.Steps.{share}
 use Rattle.steps.specs.Given.{tag}
 use Rattle.document.specs.Standing.{standing, memory_lent}

@@ -1,4 +1,3 @@
-use Rattle.std.proofs.Common.{◌≡◌, sym, refl}
 use Rattle.document.specs.Standing.{standing, memory_lent}
 use Rattle.load.proofs.Adding.{close_got, never_refused}
 use Rattle.load.proofs.holders.add_close.Goals as goal

@@ -1,4 +1,4 @@
-use Rattle.std.proofs.Common.{◌≡◌, sym, refl}
+use Rattle.std.proofs.Common.{sym, refl}
 use Rattle.document.specs.Standing.{standing, memory_lent}
 use Rattle.load.proofs.Adding.{room_got, room_refused}
 use Rattle.load.proofs.holders.check_room.Goals as goal

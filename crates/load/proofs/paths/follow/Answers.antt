@@ -1,4 +1,4 @@
-use Rattle.std.proofs.Common.{◌≡◌, ◌-◌, sym, refl, ap, ◌∙◌, arith}
+use Rattle.std.proofs.Common.{◌≡◌, ◌-◌, ◌∙◌, arith}
 use Rattle.steps.specs.Outline.{values, walk}
 use Rattle.document.specs.Standing.{standing}
 use Rattle.load.specs.Runs.{entries}

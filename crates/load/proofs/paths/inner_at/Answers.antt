@@ -1,8 +1,7 @@
-use Rattle.std.proofs.Common.{◌≡◌, ◌+◌, ◌≤◌, true, false, length, sym, refl, ap, ◌∙◌, arith}
+use Rattle.std.proofs.Common.{◌≡◌, sym, arith}
 use Rattle.steps.specs.Outline.{values, inner}
 use Rattle.document.specs.Standing.{standing}
-use Rattle.load.specs.Paths.{held}
-use Rattle.load.proofs.Walked.{count_below, count_none, count_all, count_more, count_hit, nth_past, one_if}
+use Rattle.load.proofs.Walked.{count_below, count_none, count_all, count_more, count_hit, nth_past}
 use Rattle.load.proofs.paths.inner_at.Goals as goal
 use Rattle.load.proofs.paths.inner_at.Goals.{then-is_held+else-left-eq0, else-is_held}
 

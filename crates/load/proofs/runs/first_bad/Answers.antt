@@ -1,4 +1,4 @@
-use Rattle.std.proofs.Common.{◌≡◌, ℕ, ◌+◌, ◌*◌, ◌<◌, ◌≤◌, List, take, drop, sym, ap, ◌∙◌, arith, rules, below_more}
+use Rattle.std.proofs.Common.{◌≡◌, ℕ, ◌+◌, ◌*◌, ◌<◌, List, take, drop, ◌∙◌, arith, below_more}
 use Rattle.redbin.specs.Bytes.{number}
 use Rattle.load.specs.Runs.{width, entry}
 use Rattle.load.proofs.Series.{entry_from}

@@ -1,4 +1,4 @@
-use Rattle.std.proofs.Common.{◌≡◌, ◌<◌, true, ltb, [], sym, refl, ap, ◌∙◌, arith}
+use Rattle.std.proofs.Common.{◌≡◌, ◌<◌, true, ltb, [], arith}
 use Rattle.std.proofs.lemmas.Bool.Decides.{nat_tests}
 use Rattle.redbin.proofs.Got.{below_got}
 use Rattle.load.specs.Ran.{size_of}
@@ -14,7 +14,7 @@ use Rattle.load.proofs.scalars.char.Goals as goal
 pub returns-in_err-n : goal.returns-in_err-n
 unfolding content
 returns-in_err-n c =
-    let p = err_from_is_err_and c.from-residual.result c.from-residual.ensures.1 in
+    let p = err_from_is_err_and c.from_residual.result c.from_residual.ensures.1 in
     rw (p.1, p.2) (λ one. field_stop c.args.reader.now _ c.args.store.now (λ n. below n Record 4 1114112 BadContent) (λ s n. add s c.args.place (tag c.args.label) (char n)) _ c.requires.kept c.in_err-n.ensures)
 
 pub add-requires : goal.add-requires

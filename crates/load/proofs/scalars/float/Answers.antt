@@ -1,4 +1,4 @@
-use Rattle.std.proofs.Common.{◌≡◌, sym, refl, ap, ◌∙◌}
+use Rattle.std.proofs.Common.{refl}
 use Rattle.std.proofs.lemmas.Result.{err_from_is_err_and}
 use Rattle.refusal.specs.declared.Part.TheVariants.{Record}
 use Rattle.refusal.specs.declared.Reason.TheVariants.{Large}
@@ -15,7 +15,7 @@ use Rattle.load.proofs.scalars.float.Goals as goal
 pub returns-in_err-on_boundary : goal.returns-in_err-on_boundary
 unfolding content add_float after
 returns-in_err-on_boundary c =
-    let p = err_from_is_err_and c.from-residual.result c.from-residual.ensures.1 in
+    let p = err_from_is_err_and c.from_residual.result c.from_residual.ensures.1 in
     let b = c.args.store.now in
     rw (p.1, p.2) (λ one. record {
       file = refl;
@@ -27,7 +27,7 @@ returns-in_err-on_boundary c =
 pub returns-in_err-n : goal.returns-in_err-n
 unfolding content add_float after
 returns-in_err-n c =
-    let p = err_from_is_err_and c.from-residual-in_err-n.result c.from-residual-in_err-n.ensures.1 in
+    let p = err_from_is_err_and c.from_residual-in_err-n.result c.from_residual-in_err-n.ensures.1 in
     let b = c.args.store.now in
     let w = c.in_err-n.ensures in
     rw (p.1, p.2) (λ one. record {

@@ -1,17 +1,15 @@
-use Rattle.std.proofs.Common.{◌≡◌, sym, refl, ap, ◌∙◌}
 use Rattle.std.proofs.lemmas.Result.{err_from_is_err_and}
 use Rattle.refusal.specs.declared.Part.TheVariants.{Record}
-use Rattle.refusal.specs.declared.Reason.TheVariants.{BadContent}
 use Rattle.steps.specs.Given.{tag}
 use Rattle.steps.specs.Steps.{integer}
-use Rattle.redbin.specs.Reading.{content, below, add, signed, any_word}
+use Rattle.redbin.specs.Reading.{content, add, signed, any_word}
 use Rattle.load.proofs.Filling.{field_stop, field_add}
 use Rattle.load.proofs.scalars.integer.Goals as goal
 
 pub returns-in_err-n : goal.returns-in_err-n
 unfolding content
 returns-in_err-n c =
-    let p = err_from_is_err_and c.from-residual.result c.from-residual.ensures.1 in
+    let p = err_from_is_err_and c.from_residual.result c.from_residual.ensures.1 in
     rw (p.1, p.2) (λ one. field_stop c.args.reader.now _ c.args.store.now (λ n. any_word n Record) (λ s n. add s c.args.place (tag c.args.label) (integer (signed n))) _ c.requires.kept c.in_err-n.ensures)
 
 pub returns : goal.returns

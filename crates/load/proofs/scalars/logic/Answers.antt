@@ -1,4 +1,3 @@
-use Rattle.std.proofs.Common.{◌≡◌, sym, refl, ap, ◌∙◌}
 use Rattle.std.proofs.lemmas.Result.{err_from_is_err_and}
 use Rattle.refusal.specs.declared.Part.TheVariants.{Record}
 use Rattle.refusal.specs.declared.Reason.TheVariants.{BadContent}
@@ -11,7 +10,7 @@ use Rattle.load.proofs.scalars.logic.Goals as goal
 pub returns-in_err-n : goal.returns-in_err-n
 unfolding content
 returns-in_err-n c =
-    let p = err_from_is_err_and c.from-residual.result c.from-residual.ensures.1 in
+    let p = err_from_is_err_and c.from_residual.result c.from_residual.ensures.1 in
     rw (p.1, p.2) (λ one. field_stop c.args.reader.now _ c.args.store.now (λ n. below n Record 4 2 BadContent) (λ s n. add s c.args.place (tag c.args.label) (logic (is_nonzero n))) _ c.requires.kept c.in_err-n.ensures)
 
 pub returns : goal.returns

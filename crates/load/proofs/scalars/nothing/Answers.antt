@@ -1,4 +1,3 @@
-use Rattle.std.proofs.Common.{◌≡◌, refl}
 use Rattle.redbin.specs.Reading.{content}
 use Rattle.load.proofs.scalars.nothing.Goals as goal
 

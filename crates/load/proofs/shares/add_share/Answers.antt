@@ -1,10 +1,10 @@
-use Rattle.std.proofs.Common.{◌≡◌, true, ◌&&◌, Some, None, sym, refl, ap, ◌∙◌}
+use Rattle.std.proofs.Common.{◌≡◌, true, sym, refl, ◌∙◌}
 use Rattle.std.proofs.lemmas.Result.{err_from_is_err_and}
 use Rattle.steps.specs.Given.{tag}
 use Rattle.steps.specs.Outline.{values, follow, suits, share_family}
 use Rattle.document.specs.Standing.{standing, memory_lent}
-use Rattle.redbin.specs.Reading.{target_of, add_share}
-use Rattle.load.specs.Ran.{rest_of, size_of}
+use Rattle.redbin.specs.Reading.{add_share}
+use Rattle.load.specs.Ran.{rest_of}
 use Rattle.load.specs.Runs.{entries}
 use Rattle.load.specs.Shared.{shared}
 use Rattle.load.proofs.Then.{ran_at}
@@ -13,7 +13,7 @@ use Rattle.load.proofs.shares.add_share.Goals as goal
 
 pub returns-in_err-at : goal.returns-in_err-at
 returns-in_err-at c =
-    let p = err_from_is_err_and c.from-residual.result c.from-residual.ensures.1 in
+    let p = err_from_is_err_and c.from_residual.result c.from_residual.ensures.1 in
     let r = c.args.reader.now in
     let b = c.args.store.now in
     let e = standing b in
@@ -23,7 +23,7 @@ returns-in_err-at c =
 
 pub returns-in_err-n : goal.returns-in_err-n
 returns-in_err-n c =
-    let p = err_from_is_err_and c.from-residual-in_err-n.result c.from-residual-in_err-n.ensures.1 in
+    let p = err_from_is_err_and c.from_residual-in_err-n.result c.from_residual-in_err-n.ensures.1 in
     let r = c.args.reader.now in
     let b = c.args.store.now in
     let e = standing b in
@@ -40,7 +40,7 @@ returns-in_err-n c =
 
 pub returns-in_err-path : goal.returns-in_err-path
 returns-in_err-path c =
-    let p = err_from_is_err_and c.from-residual-in_err-path.result c.from-residual-in_err-path.ensures.1 in
+    let p = err_from_is_err_and c.from_residual-in_err-path.result c.from_residual-in_err-path.ensures.1 in
     let r = c.args.reader.now in
     let b = c.args.store.now in
     let e = standing b in

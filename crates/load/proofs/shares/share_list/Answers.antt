@@ -1,4 +1,4 @@
-use Rattle.std.proofs.Common.{◌≡◌, ◌<◌, true, ltb, [], sym, refl, arith}
+use Rattle.std.proofs.Common.{◌≡◌, ◌<◌, true, ltb, [], arith}
 use Rattle.std.proofs.lemmas.Bool.Decides.{nat_tests}
 use Rattle.std.proofs.lemmas.Result.{err_from_is_err_and}
 use Rattle.refusal.specs.declared.Part.TheVariants.{Record}
@@ -14,7 +14,7 @@ use Rattle.load.proofs.shares.share_list.Goals as goal
 pub returns-in_err-head : goal.returns-in_err-head
 unfolding content
 returns-in_err-head c =
-    let p = err_from_is_err_and c.from-residual.result c.from-residual.ensures.1 in
+    let p = err_from_is_err_and c.from_residual.result c.from_residual.ensures.1 in
     rw (p.1, p.2) (λ one. field_stop c.args.reader.now _ c.args.store.now (λ n. word n Record) (λ s n. add_share s c.args.place (tag c.args.label) (Shared c.args.kind n)) _ c.requires.kept c.in_err-head.ensures)
 
 pub add_share-requires : goal.add_share-requires

@@ -1,4 +1,4 @@
-use Rattle.std.proofs.Common.{◌≡◌, sym, refl, ◌∙◌, arith}
+use Rattle.std.proofs.Common.{sym, arith}
 use Rattle.std.proofs.lemmas.List.{take_rest}
 use Rattle.load.proofs.Names.{name_behind, name_endless, name_lawful, name_unlawful}
 use Rattle.load.proofs.symbols.name_at.Goals as goal

@@ -1,4 +1,4 @@
-use Rattle.std.proofs.Common.{◌≡◌, ℕ, ◌*◌, ◌<◌, true, List, [], Ok, Err, Result, sym, refl, ap, ◌∙◌, subst, mul_comm, arith}
+use Rattle.std.proofs.Common.{◌≡◌, ℕ, ◌*◌, ◌<◌, List, [], Ok, Result, ap, ◌∙◌, subst, mul_comm, arith}
 use Rattle.std.proofs.lemmas.Bool.{lt-ltb, and_from}
 use Rattle.std.proofs.lemmas.Result.{err_from_is_err_and}
 use Rattle.refusal.specs.declared.Refusal.{Refusal}
@@ -43,7 +43,7 @@ module _ (place : ℕ) (l : Tag) (kind : TextKind) (unit : ℕ) where
 pub returns-in_err-head : goal.returns-in_err-head
 unfolding add_text
 returns-in_err-head c =
-    let p = err_from_is_err_and c.from-residual.result c.from-residual.ensures.1 in
+    let p = err_from_is_err_and c.from_residual.result c.from_residual.ensures.1 in
     let u = width c.args.unit in
     let l = tag c.args.label in
     rw (p.1, p.2) (field_stop c.args.reader.now _ c.args.store.now (λ n. word n Record) (after-head c.args.place l c.args.kind u) _ c.requires.kept c.in_err-head.ensures)
@@ -51,7 +51,7 @@ returns-in_err-head c =
 pub returns-in_err-n : goal.returns-in_err-n
 unfolding add_text
 returns-in_err-n c =
-    let p = err_from_is_err_and c.from-residual-in_err-n.result c.from-residual-in_err-n.ensures.1 in
+    let p = err_from_is_err_and c.from_residual-in_err-n.result c.from_residual-in_err-n.ensures.1 in
     let b = c.args.store.now in
     let u = width c.args.unit in
     let l = tag c.args.label in
@@ -77,7 +77,7 @@ blanks_by r s unit n size k answer p q d =
 
 pub returns-in_err-bytes : goal.returns-in_err-bytes
 returns-in_err-bytes c =
-    let p = err_from_is_err_and c.from-residual-in_err-bytes.result c.from-residual-in_err-bytes.ensures.1 in
+    let p = err_from_is_err_and c.from_residual-in_err-bytes.result c.from_residual-in_err-bytes.ensures.1 in
     let b = c.args.store.now in
     let u = width c.args.unit in
     let l = tag c.args.label in
@@ -88,7 +88,7 @@ returns-in_err-bytes c =
 
 pub returns-in_err-run : goal.returns-in_err-run
 returns-in_err-run c =
-    let p = err_from_is_err_and c.from-residual-in_err-run.result c.from-residual-in_err-run.ensures.1 in
+    let p = err_from_is_err_and c.from_residual-in_err-run.result c.from_residual-in_err-run.ensures.1 in
     let b = c.args.store.now in
     let u = width c.args.unit in
     let l = tag c.args.label in

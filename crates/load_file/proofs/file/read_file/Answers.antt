@@ -27,7 +27,7 @@ tabled_at r s t answer e d =
 
 pub returns-in_err-start_of_file : goal.returns-in_err-start_of_file
 returns-in_err-start_of_file c =
-    let p = err_from_is_err_and c.from-residual.result c.from-residual.ensures.1 in
+    let p = err_from_is_err_and c.from_residual.result c.from_residual.ensures.1 in
     let k = in_memory (memory_lent c.args.store.now) in
     let r = c.new-reader.result in
     let e = ap (λ x. x.now) c.new-reader.ensures.file in
@@ -39,7 +39,7 @@ returns-in_err-start_of_file c =
 
 pub returns-in_err-count : goal.returns-in_err-count
 returns-in_err-count c =
-    let p = err_from_is_err_and c.from-residual-in_err-count.result c.from-residual-in_err-count.ensures.1 in
+    let p = err_from_is_err_and c.from_residual-in_err-count.result c.from_residual-in_err-count.ensures.1 in
     let k = in_memory (memory_lent c.args.store.now) in
     let r = c.new-reader.result in
     let e = ap (λ x. x.now) c.new-reader.ensures.file in
@@ -52,7 +52,7 @@ returns-in_err-count c =
 
 pub returns-in_err-payload : goal.returns-in_err-payload
 returns-in_err-payload c =
-    let p = err_from_is_err_and c.from-residual-in_err-payload.result c.from-residual-in_err-payload.ensures.1 in
+    let p = err_from_is_err_and c.from_residual-in_err-payload.result c.from_residual-in_err-payload.ensures.1 in
     let k = in_memory (memory_lent c.args.store.now) in
     let r = c.new-reader.result in
     let e = ap (λ x. x.now) c.new-reader.ensures.file in
@@ -67,7 +67,7 @@ returns-in_err-payload c =
 
 pub returns-in_err-symbols : goal.returns-in_err-symbols
 returns-in_err-symbols c =
-    let p = err_from_is_err_and c.from-residual-in_err-symbols.result c.from-residual-in_err-symbols.ensures.1 in
+    let p = err_from_is_err_and c.from_residual-in_err-symbols.result c.from_residual-in_err-symbols.ensures.1 in
     let k = in_memory (memory_lent c.args.store.now) in
     let r = c.new-reader.result in
     let e = ap (λ x. x.now) c.new-reader.ensures.file in

@@ -25,7 +25,7 @@ module _ (k : Scope) (n : ℕ) where
 
 pub returns-in_err-check_payload : goal.returns-in_err-check_payload
 returns-in_err-check_payload c =
-    let p = err_from_is_err_and c.from-residual.result c.from-residual.ensures.1 in
+    let p = err_from_is_err_and c.from_residual.result c.from_residual.ensures.1 in
     let k = c.args.scope in
     let n = c.args.count in
     let r = c.args.reader.now in
@@ -35,7 +35,7 @@ returns-in_err-check_payload c =
 
 pub returns-in_err-roots : goal.returns-in_err-roots
 returns-in_err-roots c =
-    let p = err_from_is_err_and c.from-residual-in_err-roots.result c.from-residual-in_err-roots.ensures.1 in
+    let p = err_from_is_err_and c.from_residual-in_err-roots.result c.from_residual-in_err-roots.ensures.1 in
     let k = c.args.scope in
     let n = c.args.count in
     let r = c.args.reader.now in

@@ -16,7 +16,7 @@ value-requires c =
 
 pub returns-in_err-value : goal.returns-in_err-value
 returns-in_err-value c =
-    let p = err_from_is_err_and c.from-residual.result c.from-residual.ensures.1 in
+    let p = err_from_is_err_and c.from_residual.result c.from_residual.ensures.1 in
     let i = c.loop.invariant in
     rw (p.1, p.2) (root_broke c.args.scope c.args.reader.now c.args.store.now c.requires c.loop.reader c.loop.depth.left c.loop.store _ _ i (omega arith) _ _ _ c.in_err-value.ensures.filled)
 

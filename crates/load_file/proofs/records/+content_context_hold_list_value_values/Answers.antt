@@ -111,7 +111,7 @@ content-returns-in-Object t c =
 
 pub value-returns-in_err-heading : goal.value-returns-in_err-heading
 value-returns-in_err-heading t c =
-    let p = err_from_is_err_and c.from-residual.result c.from-residual.ensures.1 in
+    let p = err_from_is_err_and c.from_residual.result c.from_residual.ensures.1 in
     rw (p.1, p.2) (record {
       filled = heading_stop c.args.scope c.args.depth.now.left c.args.name.now c.args.reader.now _ c.args.store.now _ c.requires.prepared.kept c.in_err-heading.ensures;
       depth = refl;
@@ -146,7 +146,7 @@ value-returns t c =
 
 pub hold-returns-in_err-add_opened : goal.hold-returns-in_err-add_opened
 hold-returns-in_err-add_opened t c =
-    let p = err_from_is_err_and c.from-residual.result c.from-residual.ensures.1 in
+    let p = err_from_is_err_and c.from_residual.result c.from_residual.ensures.1 in
     let r = c.args.reader.now in
     let x = start_of (table_of c.args.scope.symbols) r.file.now c.args.opening in
     rw (p.1, p.2) (record {
@@ -169,7 +169,7 @@ hold-values-requires t c =
 
 pub hold-returns-in_err-values : goal.hold-returns-in_err-values
 hold-returns-in_err-values t c =
-    let p = err_from_is_err_and c.from-residual-in_err-values.result c.from-residual-in_err-values.ensures.1 in
+    let p = err_from_is_err_and c.from_residual-in_err-values.result c.from_residual-in_err-values.ensures.1 in
     let r = c.args.reader.now in
     let x = start_of (table_of c.args.scope.symbols) r.file.now c.args.opening in
     let g = c.in_err-values.ensures.valued in
@@ -204,7 +204,7 @@ hold-returns t c =
 
 pub list-returns-in_err-opening : goal.list-returns-in_err-opening
 list-returns-in_err-opening t c =
-    let p = err_from_is_err_and c.from-residual.result c.from-residual.ensures.1 in
+    let p = err_from_is_err_and c.from_residual.result c.from_residual.ensures.1 in
     rw (p.1, p.2) (record {
       filled = list_stop c.args.scope (c.args.depth.now.left - 1) c.args.place (tag c.args.label) c.args.reader.now _ c.args.store.now c.args.kind _ c.requires.prepared.kept c.in_err-opening.ensures.did;
       depth = refl;
@@ -238,7 +238,7 @@ list-returns t c =
 
 pub context-returns-in_err-fields : goal.context-returns-in_err-fields
 context-returns-in_err-fields t c =
-    let p = err_from_is_err_and c.from-residual.result c.from-residual.ensures.1 in
+    let p = err_from_is_err_and c.from_residual.result c.from_residual.ensures.1 in
     rw (p.1, p.2) (record {
       filled = object_stop c.args.scope (c.args.depth.now.left - 1) c.args.place (tag c.args.label) c.args.reader.now _ c.args.store.now c.args.owner _ c.in_err-fields.ensures;
       depth = refl;
@@ -247,7 +247,7 @@ context-returns-in_err-fields t c =
 
 pub context-returns-in_err-opening : goal.context-returns-in_err-opening
 context-returns-in_err-opening t c =
-    let p = err_from_is_err_and c.from-residual-in_err-opening.result c.from-residual-in_err-opening.ensures.1 in
+    let p = err_from_is_err_and c.from_residual-in_err-opening.result c.from_residual-in_err-opening.ensures.1 in
     rw (p.1, p.2) (record {
       filled = context_stop c.args.scope (c.args.depth.now.left - 1) c.args.place (tag c.args.label) c.args.reader.now _ c.args.store.now c.args.owner _ c.in_ok-fields.ensures _ _ c.in_err-opening.ensures.did;
       depth = refl;
@@ -337,7 +337,7 @@ values-loop-next-preserved t c =
 
 pub values-returns-in_err-value : goal.values-returns-in_err-value
 values-returns-in_err-value t c =
-    let p = err_from_is_err_and c.from-residual.result c.from-residual.ensures.1 in
+    let p = err_from_is_err_and c.from_residual.result c.from_residual.ensures.1 in
     let inv = c.loop-next.invariant in
     let k = c.args.scope in
     let r = c.args.reader.now in

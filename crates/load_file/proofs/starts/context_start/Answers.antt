@@ -33,13 +33,13 @@ module _ (f : Fields) (table : List Name) where
 
 pub returns-in_err-self_mark : goal.returns-in_err-self_mark
 returns-in_err-self_mark c =
-    let p = err_from_is_err_and c.from-residual.result c.from-residual.ensures.1 in
+    let p = err_from_is_err_and c.from_residual.result c.from_residual.ensures.1 in
     let t = table_of c.args.scope.symbols in
     rw (p.1, p.2) (record { did = in_stop c.args.reader.now _ context (past-self c.args.fields t) _ c.in_err-self_mark.ensures; placed = tt })
 
 pub returns-in_err-left : goal.returns-in_err-left
 returns-in_err-left c =
-    let p = err_from_is_err_and c.from-residual-in_err-left.result c.from-residual-in_err-left.ensures.1 in
+    let p = err_from_is_err_and c.from_residual-in_err-left.result c.from_residual-in_err-left.ensures.1 in
     let t = table_of c.args.scope.symbols in
     let f = c.args.fields in
     let mark = c.in_ok-self_mark.self_mark in
@@ -55,7 +55,7 @@ indexes_by f table r s n count answer e d = subst (λ (k : ℕ). Did r (λ z. ru
 
 pub returns-in_err-run : goal.returns-in_err-run
 returns-in_err-run c =
-    let p = err_from_is_err_and c.from-residual-in_err-run.result c.from-residual-in_err-run.ensures.1 in
+    let p = err_from_is_err_and c.from_residual-in_err-run.result c.from_residual-in_err-run.ensures.1 in
     let t = table_of c.args.scope.symbols in
     let f = c.args.fields in
     let mark = c.in_ok-self_mark.self_mark in

@@ -16,12 +16,12 @@ past_head k size head = word size Record >>= λ n. return (made_of k head n)
 
 pub returns-in_err-head : goal.returns-in_err-head
 returns-in_err-head c =
-    let p = err_from_is_err_and c.from-residual.result c.from-residual.ensures.1 in
+    let p = err_from_is_err_and c.from_residual.result c.from_residual.ensures.1 in
     rw (p.1, p.2) (record { did = did_stop c.args.reader.now _ (λ n. word n Record) (past_head c.args.kind) _ c.in_err-head.ensures; unnamed = tt })
 
 pub returns-in_err-left : goal.returns-in_err-left
 returns-in_err-left c =
-    let p = err_from_is_err_and c.from-residual-in_err-left.result c.from-residual-in_err-left.ensures.1 in
+    let p = err_from_is_err_and c.from_residual-in_err-left.result c.from_residual-in_err-left.ensures.1 in
     let head = c.in_ok-head.head in
     rw (p.1, p.2) (record {
       did = did_then c.args.reader.now c.word.new.self (λ n. word n Record) (past_head c.args.kind) _ head _ c.in_ok-head.ensures

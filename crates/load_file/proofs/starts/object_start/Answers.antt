@@ -24,12 +24,12 @@ module _ (owner : Bool) (place : ℕ) (l : Tag) where
 
 pub returns-in_err-class : goal.returns-in_err-class
 returns-in_err-class c =
-    let p = err_from_is_err_and c.from-residual.result c.from-residual.ensures.1 in
+    let p = err_from_is_err_and c.from_residual.result c.from_residual.ensures.1 in
     rw (p.1, p.2) (fill_stop c.args.reader.now _ c.args.store.now (λ n. word n Record) (past-class c.args.owner c.args.place (tag c.args.label)) _ c.requires c.in_err-class.ensures)
 
 pub returns-in_err-on_set : goal.returns-in_err-on_set
 returns-in_err-on_set c =
-    let p = err_from_is_err_and c.from-residual-in_err-on_set.result c.from-residual-in_err-on_set.ensures.1 in
+    let p = err_from_is_err_and c.from_residual-in_err-on_set.result c.from_residual-in_err-on_set.ensures.1 in
     let b = c.args.store.now in
     let l = tag c.args.label in
     let class = c.in_ok-class.class in
@@ -38,7 +38,7 @@ returns-in_err-on_set c =
 
 pub returns-in_err-arity : goal.returns-in_err-arity
 returns-in_err-arity c =
-    let p = err_from_is_err_and c.from-residual-in_err-arity.result c.from-residual-in_err-arity.ensures.1 in
+    let p = err_from_is_err_and c.from_residual-in_err-arity.result c.from_residual-in_err-arity.ensures.1 in
     let b = c.args.store.now in
     let l = tag c.args.label in
     let class = c.in_ok-class.class in
@@ -49,7 +49,7 @@ returns-in_err-arity c =
 
 pub returns-in_err-check_room : goal.returns-in_err-check_room
 returns-in_err-check_room c =
-    let p = err_from_is_err_and c.from-residual-in_err-check_room.result c.from-residual-in_err-check_room.ensures.1 in
+    let p = err_from_is_err_and c.from_residual-in_err-check_room.result c.from_residual-in_err-check_room.ensures.1 in
     let b = c.args.store.now in
     let l = tag c.args.label in
     let class = c.in_ok-class.class in

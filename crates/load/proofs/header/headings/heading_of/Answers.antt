@@ -1,4 +1,3 @@
-use Rattle.std.proofs.Common.{◌≡◌, sym, refl}
 use Rattle.redbin.specs.Reading.{heading_of}
 use Rattle.load.proofs.header.headings.heading_of.Goals as goal
 

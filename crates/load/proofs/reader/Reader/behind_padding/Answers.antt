@@ -1,11 +1,11 @@
-use Rattle.std.proofs.Common.{◌≡◌, Bool, true, false, not, eqb, length, drop, sym, refl, ap, ◌∙◌, arith}
+use Rattle.std.proofs.Common.{◌≡◌, true, false, eqb, refl, ◌∙◌, arith}
 use Rattle.std.proofs.lemmas.Bool.Decides.{nat_tests}
 use Rattle.std.proofs.lemmas.Result.{err_from_is_err_and}
 use Rattle.redbin.specs.Reading.{after, heading_of, behind_padding}
 use Rattle.load.specs.Ran.{rest_of}
 use Rattle.load.proofs.Bools.{is_true, is_false}
 use Rattle.load.proofs.Fields.{place_at}
-use Rattle.load.proofs.Headings.{other, padding_alone, padding_bits, padding_next}
+use Rattle.load.proofs.Headings.{padding_alone, padding_bits, padding_next}
 use Rattle.load.proofs.Then.{ran_by}
 use Rattle.load.proofs.reader.Reader.behind_padding.Goals as goal
 
@@ -20,7 +20,7 @@ returns-then-header-ne0 c =
 pub returns-in_err-next : goal.returns-in_err-next
 unfolding after
 returns-in_err-next c =
-    let p = err_from_is_err_and c.from-residual.result c.from-residual.ensures.1 in
+    let p = err_from_is_err_and c.from_residual.result c.from_residual.ensures.1 in
     let z : eqb c.args.header 0 ≡ true = grind (arith, nat_tests) in
     rw (p.1, p.2) (record {
       file = c.in_err-next.ensures.file;

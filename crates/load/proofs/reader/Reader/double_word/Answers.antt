@@ -1,4 +1,4 @@
-use Rattle.std.proofs.Common.{◌≡◌, ◌+◌, ◌*◌, ◌<◌, length, take, drop, refl, arith, drop-drop, rules}
+use Rattle.std.proofs.Common.{◌≡◌, ◌<◌, take, drop, refl, arith, drop-drop, rules}
 use Rattle.redbin.specs.Bytes.{number}
 use Rattle.load.proofs.Fields.{four_at, next_four, number_eight, below_short, below_got}
 use Rattle.load.proofs.reader.Reader.double_word.Goals as goal
@@ -13,5 +13,5 @@ returns c =
     let low : c.from_le_bytes-low.result ≡ four_at f p = search rules in
     let high : c.from_le_bytes-high.result ≡ next_four f p = search rules in
     let n = number_eight f p (omega arith) in
-    let fits : number (take 8 (drop p f)) < 18446744073709551616 = rw n (omega (arith, c.from_le_bytes-high.type-inv, c.from_le_bytes-low.type-inv)) in
+    let fits : number (take 8 (drop p f)) < 18446744073709551616 = rw n (omega (arith, c.from_le_bytes-high.type_inv, c.from_le_bytes-low.type_inv)) in
     record { file = refl; ran = λ e. rw (high, low, ← n, ← drop-drop 8 p f) (below_got f p c.args.self.now.within _ 8 _ _ e (omega arith) fits) }

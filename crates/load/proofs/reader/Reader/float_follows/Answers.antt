@@ -1,6 +1,6 @@
 use Rattle.std.proofs.Common.{◌≡◌, ◌-◌, Bool, true, false, not, leb, length, sym, refl, ap, ◌∙◌, arith}
 use Rattle.std.proofs.lemmas.Bool.Decides.{nat_tests}
-use Rattle.load.proofs.Headings.{other, other_short, other_long}
+use Rattle.load.proofs.Headings.{other_short, other_long}
 use Rattle.load.proofs.reader.Reader.float_follows.Goals as goal
 
 twice : (b : Bool) → b ≡ not (not b)

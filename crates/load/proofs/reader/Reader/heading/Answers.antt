@@ -1,4 +1,4 @@
-use Rattle.std.proofs.Common.{◌≡◌, ◌%◌, Bool, true, false, not, eqb, length, drop, sym, refl, ap, ◌∙◌, arith}
+use Rattle.std.proofs.Common.{◌≡◌, ◌%◌, true, false, eqb, length, sym, ap, ◌∙◌, arith}
 use Rattle.std.proofs.lemmas.Bool.Decides.{nat_tests}
 use Rattle.std.proofs.lemmas.Result.{err_from_is_err_and}
 use Rattle.redbin.specs.Reading.{after, heading_of, behind_padding, heading}
@@ -11,7 +11,7 @@ use Rattle.load.proofs.reader.Reader.heading.Goals as goal
 pub returns-in_err-header : goal.returns-in_err-header
 unfolding after
 returns-in_err-header c =
-    let p = err_from_is_err_and c.from-residual.result c.from-residual.ensures.1 in
+    let p = err_from_is_err_and c.from_residual.result c.from_residual.ensures.1 in
     rw (p.1, p.2) (record {
       file = c.in_err-header.ensures.file;
       ran = λ s q e. heading_starts s _ e ∙ rw (q, c.in_err-header.ensures.ran e);

@@ -1,5 +1,4 @@
-use Rattle.std.proofs.Common.{◌≡◌, ◌+◌, ◌-◌, ◌<◌, ◌≤◌, length, take, drop, sym, refl, ◌∙◌, arith, drop-drop, rules}
-use Rattle.redbin.specs.Bytes.{number}
+use Rattle.std.proofs.Common.{◌≡◌, refl, arith, drop-drop, rules}
 use Rattle.load.proofs.Fields.{four_at, number_four, below_short, below_large, below_got}
 use Rattle.load.proofs.reader.Reader.number.Goals as goal
 

@@ -1,4 +1,4 @@
-use Rattle.std.proofs.Common.{◌≡◌, ◌-◌, ◌%◌, true, false, eqb, length, sym, refl, arith, rules}
+use Rattle.std.proofs.Common.{◌≡◌, ◌-◌, ◌%◌, true, false, eqb, length, arith, rules}
 use Rattle.std.proofs.lemmas.Bool.Decides.{nat_tests}
 use Rattle.load.proofs.Fields.{boundary_got, boundary_refused}
 use Rattle.load.proofs.reader.Reader.on_boundary.Goals as goal

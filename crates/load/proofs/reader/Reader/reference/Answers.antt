@@ -1,4 +1,4 @@
-use Rattle.std.proofs.Common.{◌≡◌, ◌%◌, true, false, eqb, sym, refl, ap, ◌∙◌, arith}
+use Rattle.std.proofs.Common.{◌≡◌, ◌%◌, true, false, eqb, refl, arith}
 use Rattle.std.proofs.lemmas.Bool.Decides.{nat_tests}
 use Rattle.std.proofs.lemmas.Result.{err_from_is_err_and}
 use Rattle.load.specs.Ran.{rest_of, size_of}
@@ -8,7 +8,7 @@ use Rattle.load.proofs.reader.Reader.reference.Goals as goal
 
 pub returns-in_err-header : goal.returns-in_err-header
 returns-in_err-header c =
-    let p = err_from_is_err_and c.from-residual.result c.from-residual.ensures.1 in
+    let p = err_from_is_err_and c.from_residual.result c.from_residual.ensures.1 in
     let r = c.args.self.now in
     let w = c.in_err-header.ensures in
     rw (p.1, p.2) (record { file = w.file; ran = λ e. reference_short (size_of r) r.place 0 (rest_of r) (rest_of r) e (here_at r r e refl) _ (w.ran e) })

@@ -1,4 +1,4 @@
-use Rattle.std.proofs.Common.{◌≡◌, ℕ, ◌+◌, ◌-◌, ◌*◌, ◌≤◌, length, sym, refl, ap, arith, length-drop, length-take}
+use Rattle.std.proofs.Common.{◌≡◌, ℕ, ◌+◌, ◌-◌, ◌*◌, ◌≤◌, length, refl, ap, arith, length-drop, length-take}
 use Rattle.load.specs.Runs.{width}
 use Rattle.load.proofs.Series.{run_short, run_got, run_bad}
 use Rattle.load.proofs.reader.Reader.run.Goals as goal

@@ -1,7 +1,7 @@
-use Rattle.std.proofs.Common.{◌≡◌, Bool, true, false, not, eqb, ltb, length, get_or, sym, refl, arith, rules}
+use Rattle.std.proofs.Common.{◌≡◌, true, false, eqb, ltb, length, get_or, sym, refl, arith}
 use Rattle.std.proofs.lemmas.Bool.Decides.{nat_tests}
 use Rattle.load.proofs.Bools.{is_true, is_false}
-use Rattle.load.proofs.Starts.{strange, flagged, not_redbin, other_version, bad_flags, too_large, started}
+use Rattle.load.proofs.Starts.{not_redbin, other_version, bad_flags, too_large, started}
 use Rattle.load.proofs.reader.Reader.start_of_file.Goals as goal
 
 pub returns-then-not-is_redbin : goal.returns-then-not-is_redbin

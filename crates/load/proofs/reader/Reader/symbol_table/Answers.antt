@@ -1,22 +1,19 @@
-use Rattle.std.proofs.Common.{◌≡◌, ◌*◌, ◌/◌, [], length, sym, refl, ap, ◌∙◌, arith}
+use Rattle.std.proofs.Common.{◌≡◌, ◌/◌, [], length, ◌∙◌, arith}
 use Rattle.std.proofs.lemmas.Result.{err_from_is_err_and}
-use Rattle.steps.specs.Steps.{Steps}
-use Rattle.redbin.specs.Reading.{names_at, symbol_table}
-use Rattle.load.specs.Runs.{entries}
-use Rattle.load.specs.Ran.{rest_of, size_of, state}
+use Rattle.load.specs.Ran.{rest_of, size_of}
 use Rattle.load.proofs.Then.{ran_at, here_at}
 use Rattle.load.proofs.Tabled.{names_all, names_bad, table_count, table_size, table_run, table_strings, table_names}
 use Rattle.load.proofs.reader.Reader.symbol_table.Goals as goal
 
 pub returns-in_err-n : goal.returns-in_err-n
 returns-in_err-n c =
-    let p = err_from_is_err_and c.from-residual.result c.from-residual.ensures.1 in
+    let p = err_from_is_err_and c.from_residual.result c.from_residual.ensures.1 in
     let w = c.in_err-n.ensures in
     rw (p.1, p.2) (record { file = w.file; ran = λ e. table_count _ _ e _ (w.ran e) })
 
 pub returns-in_err-size : goal.returns-in_err-size
 returns-in_err-size c =
-    let p = err_from_is_err_and c.from-residual-in_err-size.result c.from-residual-in_err-size.ensures.1 in
+    let p = err_from_is_err_and c.from_residual-in_err-size.result c.from_residual-in_err-size.ensures.1 in
     let r = c.args.self.now in
     let w₁ = c.in_ok-n.ensures in
     let w₂ = c.in_err-size.ensures in
@@ -27,7 +24,7 @@ returns-in_err-size c =
 
 pub returns-in_err-offsets : goal.returns-in_err-offsets
 returns-in_err-offsets c =
-    let p = err_from_is_err_and c.from-residual-in_err-offsets.result c.from-residual-in_err-offsets.ensures.1 in
+    let p = err_from_is_err_and c.from_residual-in_err-offsets.result c.from_residual-in_err-offsets.ensures.1 in
     let r = c.args.self.now in
     let r₂ = c.word-2.new.self in
     let w₁ = c.in_ok-n.ensures in
@@ -42,7 +39,7 @@ returns-in_err-offsets c =
 
 pub returns-in_err-strings : goal.returns-in_err-strings
 returns-in_err-strings c =
-    let p = err_from_is_err_and c.from-residual-in_err-strings.result c.from-residual-in_err-strings.ensures.1 in
+    let p = err_from_is_err_and c.from_residual-in_err-strings.result c.from_residual-in_err-strings.ensures.1 in
     let r = c.args.self.now in
     let r₂ = c.word-2.new.self in
     let r₃ = c.run.new.self in

@@ -1,7 +1,6 @@
-use Rattle.std.proofs.Common.{◌≡◌, ℕ, ◌*◌, ◌/◌, List, [], length, take, drop, Option, sym, refl, ap, ◌∙◌, arith}
+use Rattle.std.proofs.Common.{◌≡◌, ℕ, ◌*◌, ◌/◌, List, length, take, drop, Option, sym, ◌∙◌, arith}
 use Rattle.redbin.specs.Bytes.{number}
 use Rattle.redbin.specs.Reading.{name_at}
-use Rattle.load.specs.Names.{bytes_in}
 use Rattle.load.specs.Runs.{entry}
 use Rattle.load.specs.Tables.{or_empty}
 use Rattle.load.proofs.Tabled.{name_in, name_out}

@@ -1,4 +1,4 @@
-use Rattle.std.proofs.Common.{◌≡◌, ℕ, ◌*◌, ◌<◌, true, false, List, take, drop, is_some as option_is_some, Some, None, Option, sym, refl, ap, ◌∙◌, arith, Bor, below_more}
+use Rattle.std.proofs.Common.{◌≡◌, ℕ, ◌*◌, true, List, take, drop, is_some as option_is_some, Some, None, Option, refl, Bor, below_more}
 use Rattle.redbin.specs.Bytes.{number}
 use Rattle.load.specs.Names.{bytes_in}
 use Rattle.redbin.specs.Reading.{name_at}
