@@ -1,10 +1,8 @@
 -- The first values of a document, one more at a time.
-use Rattle.std.proofs.Common.{◌≡◌, ℕ, zero, suc, ◌+◌, ◌-◌, ◌<◌, ◌≤◌, Bool, true, false, cond, ◌⊎◌, List, [], ◌∷◌, ◌++◌, length, drop, Some, None, Option, sym, refl, ap, ◌∙◌, inl, inr, ⊎_elim, arith, length-drop}
-use Rattle.std.proofs.lemmas.List.{append-nil}
+use Rattle.std.proofs.Common.{◌≡◌, ℕ, zero, suc, ◌+◌, ◌-◌, ◌<◌, ◌≤◌, true, false, cond, ◌⊎◌, List, [], ◌∷◌, ◌++◌, length, drop, Some, None, sym, refl, ap, ◌∙◌, inl, inr, ⊎_elim, arith, length-drop}
 use Rattle.steps.specs.Outline.{Entry, entry_at}
 use Rattle.steps.proofs.Entered.{entry_first, entry_later}
-use Rattle.listing.specs.Pairs.{Pair}
-use Rattle.delays.specs.Delays.{delay_of, one_or_none, delays, offends, or_else, offender, oldest, delay_at, offends_at}
+use Rattle.delays.specs.Delays.{one_or_none, delays, or_else, offender, oldest, delay_at, offends_at}
 
 drop_none : (k : ℕ) (xs : List Entry) → k ≡ 0 → drop k xs ≡ xs
 drop_none k xs e = ap (λ n. drop n xs) e

@@ -5,7 +5,6 @@ use Rattle.steps.specs.declared.parts.Node.TheVariants.{Root}
 use Rattle.steps.specs.Steps.{Tag, Begun}
 use Rattle.steps.specs.Outline.{Entry, label_in, holder_in, entry_at, begun_at}
 use Rattle.steps.proofs.Entered.{begun_in, begun_entry}
-use Rattle.listing.specs.Pairs.{Pair}
 use Rattle.delays.specs.Delays.{delay_in, delay_if, delay_at, opens_object, offends_in, offends_if, offends_at, oldest}
 
 none_if : (o : Option Entry) → begun_in o ≡ None → delay_if o ≡ None

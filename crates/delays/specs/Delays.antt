@@ -2,7 +2,7 @@
 use Rattle.std.specs.Prelude.{ℕ, ◌-◌, Bool, true, false, cond, not, ◌||◌, List, [], ◌∷◌, ◌++◌, length, drop, ℤ, Some, None, Option}
 use Rattle.steps.specs.declared.parts.Node.{Node}
 use Rattle.steps.specs.declared.parts.Node.TheVariants.{Root, At}
-use Rattle.steps.specs.Steps.{Name, Tag, none, logic, char, integer, float, text, Begun, put, open', share}
+use Rattle.steps.specs.Steps.{Name, none, logic, char, integer, float, text, Begun, put, open', share}
 use Rattle.steps.specs.Outline.{Entry, is_object, entry_at}
 use Rattle.listing.specs.Pairs.{Pair, pair, good}
 use Rattle.listing.specs.Forms.{same}

@@ -1,5 +1,5 @@
 -- The definitions of lists, objects and values, taken apart where the code is.
-use Rattle.std.proofs.Common.{◌≡◌, ℕ, zero, suc, ◌-◌, ◌%◌, ◌<◌, Bool, true, false, not, ◌||◌, eqb, List, [], length, replicate, sym, refl, ap, ◌∙◌, arith}
+use Rattle.std.proofs.Common.{◌≡◌, ℕ, zero, suc, ◌-◌, ◌%◌, ◌<◌, Bool, not, ◌||◌, eqb, List, [], length, replicate, sym, refl, ◌∙◌, arith}
 use Rattle.refusal.specs.declared.Reason.TheVariants.{BadType, BadBits, BadIndex, TooDeep}
 use Rattle.refusal.specs.declared.Part.TheVariants.{Record}
 use Rattle.steps.specs.declared.parts.Holder.TheVariants.{List as OfList, Object as OfObject}

@@ -1,12 +1,11 @@
 -- One reading after another.
-use Rattle.std.proofs.Common.{◌≡◌, ℕ, List, length, Ok, Err, Result, sym, refl, ap, ◌∙◌}
+use Rattle.std.proofs.Common.{◌≡◌, ℕ, length, Ok, Err, Result, sym, refl, ap, ◌∙◌}
 use Rattle.refusal.specs.declared.Refusal.{Refusal}
-use Rattle.steps.specs.Steps.{Steps}
 use Rattle.document.specs.declared.store.Store.{Store}
-use Rattle.document.specs.Standing.{standing, memory_lent, Kept}
-use Rattle.redbin.specs.Reading.{Reader as State, Read, Setting, Reads, got, refused, after, return, in_memory, ◌>>=◌, ◌>>◌}
+use Rattle.document.specs.Standing.{standing, Kept}
+use Rattle.redbin.specs.Reading.{Setting, Reads, after, return, in_memory, ◌>>=◌, ◌>>◌}
 use Rattle.load.specs.declared.reader.Reader.{Reader}
-use Rattle.load.specs.Ran.{Ran, Did, DidIn, state, size_of, rest_of}
+use Rattle.load.specs.Ran.{Ran, Did, DidIn, size_of, rest_of}
 use Rattle.load.specs.Filled.{Came, Added, Filled}
 use Rattle.load.proofs.Then.{ran_then, ran_stop, ran_at, came_then}
 

@@ -1,16 +1,16 @@
 -- Values that hold no others, and the headers of all.
-use Rattle.std.proofs.Common.{◌≡◌, ℕ, zero, suc, ◌-◌, ◌<◌, List, Ok, Err, Result, sym, refl, ap, ◌∙◌, subst, arith}
+use Rattle.std.proofs.Common.{◌≡◌, ℕ, zero, suc, ◌-◌, ◌<◌, Ok, Err, Result, sym, refl, ◌∙◌, subst}
 use Rattle.refusal.specs.declared.Refusal.{Refusal}
 use Rattle.refusal.specs.declared.Reason.TheVariants.{TooDeep}
 use Rattle.refusal.specs.declared.Part.TheVariants.{Record}
 use Rattle.steps.specs.Steps.{Name, Tag}
 use Rattle.document.specs.declared.store.Store.{Store}
-use Rattle.document.specs.Standing.{standing, memory_lent, Kept}
+use Rattle.document.specs.Standing.{standing, Kept}
 use Rattle.redbin.specs.declared.form.Form.{Form}
-use Rattle.redbin.specs.Reading.{Reader as State, Setting, Reads, Heading, got, refused, because, after, return, content, heading, value, in_memory}
+use Rattle.redbin.specs.Reading.{Reader as State, Setting, Reads, Heading, refused, because, after, return, content, heading, value}
 use Rattle.load.specs.declared.reader.Reader.{Reader}
-use Rattle.load.specs.Ran.{DidIn, state, size_of, rest_of}
-use Rattle.load.specs.Filled.{Came, Added, Filled}
+use Rattle.load.specs.Ran.{DidIn, state, rest_of}
+use Rattle.load.specs.Filled.{Added, Filled}
 use Rattle.load_file.specs.declared.depth.Depth.{Depth}
 use Rattle.load_file.specs.declared.levels.Levels.{Levels}
 use Rattle.load_file.specs.declared.scope.Scope.{Scope}

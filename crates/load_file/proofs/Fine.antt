@@ -1,14 +1,14 @@
 -- The unit of a text whose header was read.
-use Rattle.std.proofs.Common.{◌≡◌, ℕ, ◌+◌, ◌/◌, ◌%◌, Bool, true, false, cond, ◌||◌, eqb, ◌⊎◌, sym, refl, ap, ◌∙◌, subst, inl, inr, arith}
+use Rattle.std.proofs.Common.{◌≡◌, ℕ, ◌+◌, ◌/◌, ◌%◌, Bool, true, false, cond, ◌||◌, eqb, refl, inl, inr, arith}
 use Rattle.steps.specs.declared.parts.TextKind.{TextKind}
 use Rattle.steps.specs.declared.parts.TextKind.TheVariants.{String, File, Url}
 use Rattle.steps.specs.declared.parts.ListKind.{ListKind}
 use Rattle.steps.specs.declared.parts.ListKind.TheVariants.{Block, Paren, Path, LitPath, SetPath, GetPath}
 use Rattle.redbin.specs.declared.form.Form.{Form}
-use Rattle.redbin.specs.declared.form.Form.TheVariants.{Text as is_text, List as is_list, Object as is_object, ShareText as shares_text, ShareList as shares_list, ShareObject as shares_object}
+use Rattle.redbin.specs.declared.form.Form.TheVariants.{List as is_list, Object as is_object, ShareText as shares_text, ShareList as shares_list, ShareObject as shares_object}
 use Rattle.redbin.specs.Layout.{padding_type, none_type, logic_type, char_type, integer_type, float_type, text_type, list_type, object_type, unit_bits, share_mark, owner_mark}
 use Rattle.redbin.specs.Bytes.{bit}
-use Rattle.redbin.specs.Reading.{Reader, Reads, Setting, Heading, Announced, form, WrongType, wrong_bits, got, refused, after, plain, text_form, list_form, object_form, announced, heading_by, heading_of, behind_padding, heading}
+use Rattle.redbin.specs.Reading.{Reader, Setting, Heading, Announced, form, WrongType, wrong_bits, got, plain, text_form, list_form, object_form, announced, heading_by, heading_of, behind_padding, heading}
 use Rattle.redbin.proofs.Got.{came, same_value}
 use Rattle.load_file.specs.Values.{UnitFine}
 

@@ -1,5 +1,5 @@
 -- Lists and objects with the values in them.
-use Rattle.std.proofs.Common.{◌≡◌, ℕ, zero, suc, ◌+◌, ◌-◌, ◌<◌, ◌≤◌, Bool, true, false, cond, ◌&&◌, ltb, List, [], ◌∷◌, length, get_or, replicate, Some, None, Ok, Err, Option, Result, sym, refl, ap, ◌∙◌, subst, arith}
+use Rattle.std.proofs.Common.{◌≡◌, ℕ, zero, suc, ◌<◌, Bool, true, false, List, [], ◌∷◌, length, get_or, replicate, Ok, Err, sym, refl, ap, ◌∙◌, arith}
 use Rattle.std.proofs.lemmas.Bool.{lt-ltb, and_from}
 use Rattle.refusal.specs.declared.Refusal.{Refusal}
 use Rattle.steps.specs.declared.parts.Holder.{Holder}
@@ -7,18 +7,18 @@ use Rattle.steps.specs.declared.parts.Holder.TheVariants.{List as OfList, Object
 use Rattle.steps.specs.declared.parts.ListKind.{ListKind}
 use Rattle.steps.specs.Utf8.{lawful_name}
 use Rattle.steps.specs.Steps.{Name, Tag, Steps, open', begin, close}
-use Rattle.steps.specs.Outline.{opened, in_object, is_object}
+use Rattle.steps.specs.Outline.{is_object}
 use Rattle.steps.specs.Law.{Memory, field_end, word_end, holder_ok, has_room}
 use Rattle.document.specs.declared.store.Store.{Store}
-use Rattle.document.specs.Standing.{standing, memory_lent, Kept}
-use Rattle.redbin.specs.Reading.{Reader as State, Setting, Reads, got, refused, after, each, hold, push, room, bare, named_by, value, in_memory, ◌>>◌}
+use Rattle.document.specs.Standing.{standing, memory_lent}
+use Rattle.redbin.specs.Reading.{Reader as State, Setting, Reads, got, after, each, push, bare, named_by, value, in_memory, ◌>>◌}
 use Rattle.redbin.proofs.Drafted.{InDraft, in_draft}
 use Rattle.redbin.proofs.Fields.{Below}
 use Rattle.redbin.proofs.Got.{came, below_got, run_got, room_got, push_got, same_value}
 use Rattle.load.specs.declared.reader.Reader.{Reader}
 use Rattle.load.specs.Holders.{opened_with}
-use Rattle.load.specs.Ran.{state, size_of, rest_of}
-use Rattle.load.specs.Filled.{Came, Added, Filled}
+use Rattle.load.specs.Ran.{state, rest_of}
+use Rattle.load.specs.Filled.{Added, Filled}
 use Rattle.load_file.specs.declared.scope.Scope.{Scope}
 use Rattle.load_file.specs.declared.scope.Fields.{Fields}
 use Rattle.load_file.specs.Scopes.{within, AllLawful, Start, list_start, object_start, context_start, held}

@@ -1,15 +1,15 @@
 -- Lists and objects from their headers on.
-use Rattle.std.proofs.Common.{◌≡◌, ℕ, Bool, true, false, List, [], length, replicate, Some, None, Ok, Err, Option, Result, sym, refl, ap, ◌∙◌, subst}
+use Rattle.std.proofs.Common.{◌≡◌, ℕ, Bool, true, false, List, None, Ok, Err, Option, Result, sym, ap, ◌∙◌, subst}
 use Rattle.refusal.specs.declared.Refusal.{Refusal}
 use Rattle.steps.specs.declared.parts.ListKind.{ListKind}
 use Rattle.steps.specs.Steps.{Name, Tag}
 use Rattle.steps.specs.Law.{has_room}
 use Rattle.document.specs.declared.store.Store.{Store}
 use Rattle.document.specs.Standing.{standing, memory_lent, Kept}
-use Rattle.redbin.specs.Reading.{Setting, Reads, after, bare, add_list, add_object, value, in_memory, ◌>>=◌}
+use Rattle.redbin.specs.Reading.{Setting, Reads, after, bare, add_list, add_object, value, ◌>>=◌}
 use Rattle.load.specs.declared.reader.Reader.{Reader}
-use Rattle.load.specs.Ran.{Did, DidIn, state, size_of, rest_of}
-use Rattle.load.specs.Filled.{Came, Filled}
+use Rattle.load.specs.Ran.{Did, DidIn, state, rest_of}
+use Rattle.load.specs.Filled.{Filled}
 use Rattle.load.proofs.Adding.{room_got}
 use Rattle.load.proofs.Sharing.{came_by}
 use Rattle.load_file.specs.declared.scope.Scope.{Scope}

@@ -1,27 +1,26 @@
 -- The root values of a file, and the whole file.
-use Rattle.std.proofs.Common.{◌≡◌, ℕ, zero, suc, ◌+◌, ◌-◌, ◌<◌, ◌≤◌, Bool, true, false, cond, eqb, ltb, List, [], ◌∷◌, length, get_or, replicate, Ok, Err, Result, sym, refl, ap, ◌∙◌, subst, arith}
+use Rattle.std.proofs.Common.{◌≡◌, ℕ, suc, ◌+◌, ◌-◌, ◌<◌, ◌≤◌, Bool, true, false, cond, eqb, ltb, List, [], ◌∷◌, length, get_or, replicate, Ok, Err, Result, sym, refl, ap, ◌∙◌, subst, arith}
 use Rattle.refusal.specs.declared.Refusal.{Refusal}
 use Rattle.refusal.specs.declared.Reason.TheVariants.{Short, LeftOver, StepsStand}
-use Rattle.refusal.specs.declared.Part.TheVariants.{Header, Record, Draft}
+use Rattle.refusal.specs.declared.Part.TheVariants.{Header, Draft}
 use Rattle.steps.specs.Steps.{Steps, Name}
-use Rattle.steps.specs.Outline.{Opened, opened, in_object}
+use Rattle.steps.specs.Outline.{Opened, opened}
 use Rattle.steps.specs.Law.{Memory, name_ok}
 use Rattle.document.specs.declared.store.Store.{Store}
 use Rattle.document.specs.Standing.{standing, memory_lent, none_stands, Kept}
 use Rattle.redbin.specs.Layout.{flags_place, table_flag}
-use Rattle.redbin.specs.Reading.{Reader as State, Setting, Uses, Read, Reads, got, refused, because, after, left, refuse_when, word, each, value, records, symbol_table, return, start_of_file, whole_file, answer, read, load, in_memory, ◌>>◌}
+use Rattle.redbin.specs.Reading.{Reader as State, Setting, Uses, Read, Reads, got, refused, because, after, refuse_when, word, each, value, records, symbol_table, return, start_of_file, whole_file, answer, read, load, in_memory, ◌>>◌}
 use Rattle.redbin.proofs.Table.{AllLawful as LawfulAll}
 use Rattle.redbin.proofs.Loaded.{table_got}
 use Rattle.load.specs.declared.reader.Reader.{Reader}
 use Rattle.load.specs.Ends.{payload_rest, nothing_left}
 use Rattle.load.specs.Ran.{state, size_of, rest_of}
 use Rattle.load.specs.Filled.{Came, Filled}
-use Rattle.load.specs.Tables.{table_of}
 use Rattle.load.proofs.Tabled.{after_after}
 use Rattle.load_file.specs.declared.scope.Scope.{Scope}
 use Rattle.load_file.specs.Files.{Comes, Untouched}
 use Rattle.load_file.specs.Scopes.{within, AllLawful}
-use Rattle.load_file.specs.Values.{Prepared, Valued}
+use Rattle.load_file.specs.Values.{Prepared}
 use Rattle.load_file.proofs.Chains.{same_size}
 use Rattle.load_file.proofs.Turns.{opened_kept}
 

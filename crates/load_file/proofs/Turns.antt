@@ -1,18 +1,18 @@
 -- What one turn through the values of a level comes to.
-use Rattle.std.proofs.Common.{◌≡◌, ℕ, zero, suc, ◌+◌, ◌-◌, ◌*◌, ◌^◌, ◌<◌, ◌≤◌, Bool, true, false, cond, ◌≢◌, List, [], ◌∷◌, length, get_or, take, drop, replicate, Some, None, Ok, Err, Option, Result, sym, refl, ap, ◌∙◌, subst, arith, drop-drop}
+use Rattle.std.proofs.Common.{◌≡◌, ℕ, suc, ◌+◌, ◌-◌, ◌*◌, ◌<◌, ◌≤◌, true, ◌≢◌, List, [], ◌∷◌, length, get_or, Some, None, Ok, Err, Option, Result, sym, refl, ap, ◌∙◌, subst, arith, drop-drop}
 use Rattle.refusal.specs.declared.Refusal.{Refusal}
-use Rattle.steps.specs.Steps.{Name, Steps}
-use Rattle.steps.specs.Outline.{Opened, opened, in_object}
+use Rattle.steps.specs.Steps.{Name}
+use Rattle.steps.specs.Outline.{opened, in_object}
 use Rattle.steps.specs.Law.{deepest, name_ok}
 use Rattle.document.specs.declared.store.Store.{Store}
 use Rattle.document.specs.Standing.{standing, memory_lent, Kept}
-use Rattle.redbin.specs.Reading.{Setting, Reads, got, refused, after, each, value, named_by, in_memory}
+use Rattle.redbin.specs.Reading.{Setting, got, refused, after, each, value, named_by, in_memory}
 use Rattle.redbin.proofs.Drafted.{InDraft}
 use Rattle.redbin.proofs.Kept.{value_kept}
 use Rattle.redbin.proofs.Table.{AllLawful as LawfulAll}
 use Rattle.load.specs.declared.reader.Reader.{Reader}
 use Rattle.load.specs.Ran.{state, size_of, rest_of}
-use Rattle.load.specs.Filled.{Came, Filled}
+use Rattle.load.specs.Filled.{Filled}
 use Rattle.load.specs.Runs.{entries}
 use Rattle.load.specs.Tables.{table_of}
 use Rattle.load_file.specs.declared.levels.LevelRecord.{LevelRecord}

@@ -1,5 +1,5 @@
 -- The records of the levels that are open, and the names of the values that are left at a level.
-use Rattle.std.specs.Prelude.{◌≡◌, ℕ, ◌-◌, ◌*◌, ◌<◌, ◌≤◌, List, [], ◌∷◌, length, get_or, take, drop, replicate, Some, None, Option, ◌≢◌, slice_index_or}
+use Rattle.std.specs.Prelude.{◌≡◌, ℕ, ◌-◌, ◌*◌, ◌<◌, ◌≤◌, List, [], length, get_or, take, drop, replicate, Some, None, Option, ◌≢◌, slice_index_or}
 use Rattle.steps.specs.Steps.{Name}
 use Rattle.redbin.specs.Bytes.{number}
 use Rattle.redbin.specs.Reading.{named_by}

@@ -1,5 +1,5 @@
 -- The setting of a file's records, and how lists and objects start.
-use Rattle.std.specs.Prelude.{◌≡◌, ℕ, ◌%◌, ◌≤◌, Bool, true, false, not, ◌||◌, eqb, List, [], ◌∷◌, length, replicate}
+use Rattle.std.specs.Prelude.{◌≡◌, ℕ, Bool, true, List, [], ◌∷◌, length, replicate}
 use Rattle.refusal.specs.declared.Reason.TheVariants.{BadIndex}
 use Rattle.refusal.specs.declared.Part.TheVariants.{Record}
 use Rattle.steps.specs.declared.parts.Holder.{Holder}
@@ -13,7 +13,7 @@ use Rattle.load.specs.Tables.{table_of}
 use Rattle.load_file.specs.declared.scope.Scope.{Scope}
 use Rattle.load_file.specs.declared.scope.Opening.{Opening}
 use Rattle.load_file.specs.declared.scope.Fields.{Fields}
-use Rattle.load_file.specs.Levels.{names_left, SymbolsAt}
+use Rattle.load_file.specs.Levels.{names_left}
 
 -- the setting with the symbols and the payload of a scope
 abbrev pub within : Scope → Setting → Setting

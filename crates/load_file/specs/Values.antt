@@ -1,5 +1,5 @@
 -- What reading values asks, and what it gives.
-use Rattle.std.specs.Prelude.{◌≡◌, ℕ, ◌+◌, ◌-◌, Bool, true, cond, ◌⊎◌, List, [], ◌∷◌, length, Result, ◌==◌}
+use Rattle.std.specs.Prelude.{◌≡◌, ℕ, ◌+◌, Bool, true, cond, ◌⊎◌, List, [], ◌∷◌, length, Result, ◌==◌}
 use Rattle.refusal.specs.declared.Refusal.{Refusal}
 use Rattle.steps.specs.Utf8.{lawful_name}
 use Rattle.steps.specs.Steps.{Name}

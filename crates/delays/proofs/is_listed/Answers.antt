@@ -1,4 +1,4 @@
-use Rattle.std.proofs.Common.{sym, ◌∙◌, arith}
+use Rattle.std.proofs.Common.{sym, arith}
 use Rattle.steps.specs.Outline.{values}
 use Rattle.document.specs.Standing.{standing}
 use Rattle.delays.proofs.Names.{listed_none, listed_not, listed_found}

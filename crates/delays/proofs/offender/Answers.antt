@@ -1,4 +1,4 @@
-use Rattle.std.proofs.Common.{sym, ◌∙◌, arith}
+use Rattle.std.proofs.Common.{sym, arith}
 use Rattle.steps.specs.Outline.{values}
 use Rattle.document.specs.Standing.{standing}
 use Rattle.delays.proofs.Oldest.{offender_none, offender_not, offender_found, offender_all}

@@ -1,4 +1,4 @@
-use Rattle.std.proofs.Common.{◌≡◌, Ok, Err, sym, refl, ap, ◌∙◌, subst}
+use Rattle.std.proofs.Common.{sym, refl, ap, ◌∙◌, subst}
 use Rattle.steps.specs.Steps.{Steps}
 use Rattle.document.specs.Standing.{standing, memory_lent}
 use Rattle.redbin.specs.Reading.{load}

@@ -1,4 +1,4 @@
-use Rattle.std.proofs.Common.{◌≡◌, ℕ, ◌+◌, cond, eqb, List, [], length, get_or, Ok, Err, Result, sym, refl, ap, ◌∙◌, subst, arith}
+use Rattle.std.proofs.Common.{◌≡◌, ℕ, cond, eqb, List, [], length, get_or, Result, sym, refl, ap, ◌∙◌, subst, arith}
 use Rattle.std.proofs.lemmas.Result.{err_from_is_err_and}
 use Rattle.refusal.specs.declared.Refusal.{Refusal}
 use Rattle.refusal.specs.declared.Part.TheVariants.{Header}
@@ -9,10 +9,8 @@ use Rattle.redbin.specs.Layout.{flags_place, table_flag}
 use Rattle.redbin.specs.Reading.{Setting, Reads, word, symbol_table, return, in_memory, read as reading}
 use Rattle.load.specs.declared.reader.Reader.{Reader}
 use Rattle.load.specs.Ran.{Ran, Did, size_of, rest_of}
-use Rattle.load.specs.Tables.{table_of}
 use Rattle.load.proofs.Then.{ran_at}
 use Rattle.load_file.specs.Files.{Comes}
-use Rattle.load_file.specs.Scopes.{within}
 use Rattle.load_file.proofs.Roots.{table_lawful, whole_start, whole_count, whole_payload, whole_table, whole_records, read_refused, comes_by}
 use Rattle.load_file.proofs.file.read_file.Goals as goal
 

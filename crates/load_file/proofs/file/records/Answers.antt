@@ -1,4 +1,4 @@
-use Rattle.std.proofs.Common.{◌≡◌, ℕ, [], replicate, sym, refl}
+use Rattle.std.proofs.Common.{ℕ, [], replicate}
 use Rattle.std.proofs.lemmas.Result.{err_from_is_err_and}
 use Rattle.redbin.specs.Reading.{Setting, Reads, each, value, records, ◌>>◌}
 use Rattle.load.specs.Ends.{payload_rest, nothing_left}

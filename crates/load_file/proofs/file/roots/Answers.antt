@@ -1,4 +1,4 @@
-use Rattle.std.proofs.Common.{◌≡◌, sym, refl, arith}
+use Rattle.std.proofs.Common.{arith}
 use Rattle.std.proofs.lemmas.Result.{err_from_is_err_and}
 use Rattle.load_file.proofs.Roots.{root_start, root_prepared, root_named, root_again, root_broke, root_end}
 use Rattle.load_file.proofs.file.roots.Goals as goal

@@ -1,4 +1,4 @@
-use Rattle.std.proofs.Common.{◌≡◌, sym, refl}
+use Rattle.std.proofs.Common.{sym, refl}
 use Rattle.load.specs.Runs.{entries}
 use Rattle.load.specs.Tables.{names_of}
 use Rattle.load_file.proofs.file.symbols.Goals as goal

@@ -1,22 +1,20 @@
-use Rattle.std.proofs.Common.{◌≡◌, ℕ, ◌+◌, ◌-◌, ◌<◌, ◌≤◌, Bool, true, false, ◌≢◌, List, [], ◌∷◌, length, get_or, None, Ok, Err, sym, refl, ap, ◌∙◌, subst, arith, rules}
+use Rattle.std.proofs.Common.{◌≡◌, ℕ, ◌+◌, ◌-◌, ◌≤◌, ◌≢◌, List, [], length, get_or, sym, refl, ap, ◌∙◌, subst, arith, rules}
 use Rattle.std.proofs.lemmas.Result.{err_from_is_err_and}
 use Rattle.steps.specs.Given.{tag}
-use Rattle.steps.specs.Steps.{Steps, Name}
 use Rattle.steps.specs.Outline.{opened, in_object, is_object}
-use Rattle.steps.specs.Law.{deepest}
 use Rattle.document.specs.Standing.{standing, memory_lent}
 use Rattle.redbin.specs.declared.form.Form.{Form}
-use Rattle.redbin.specs.declared.form.Form.TheVariants.{Nothing as is_none, Logic as is_logic, Char as is_char, Integer as is_integer, Float as is_float, Text as is_text, List as is_list, Object as is-object', ShareText as shares_text, ShareList as shares_list, ShareObject as shares_object}
-use Rattle.redbin.specs.Reading.{Setting, Reads, in_memory, content, value, add_text, add_list, add_object}
+use Rattle.redbin.specs.declared.form.Form.TheVariants.{Nothing as is_none, Logic as is_logic, Char as is_char, Integer as is_integer, Float as is_float, Text as is_text, ShareText as shares_text, ShareList as shares_list, ShareObject as shares_object}
+use Rattle.redbin.specs.Reading.{Setting, in_memory, content, value, add_text}
 use Rattle.redbin.proofs.Drafted.{InDraft, in_draft}
 use Rattle.load.specs.Ran.{size_of}
 use Rattle.load.specs.Filled.{Filled}
 use Rattle.load.specs.Runs.{width}
 use Rattle.load.specs.Tables.{table_of}
 use Rattle.load_file.specs.declared.levels.LevelRecord.{LevelRecord}
-use Rattle.load_file.specs.Levels.{blank, names_from, names_left, SymbolsAt}
+use Rattle.load_file.specs.Levels.{blank, names_left, SymbolsAt}
 use Rattle.load_file.specs.Scopes.{within, Start, start_of, held}
-use Rattle.load_file.specs.Values.{Prepared, Named, Valued}
+use Rattle.load_file.specs.Values.{Named, Valued}
 use Rattle.load_file.proofs.Contents.{in_scope, added_fills, leaf_valued, heading_stop, heading_deep, heading_then}
 use Rattle.load_file.proofs.Fine.{heading_fine}
 use Rattle.load_file.proofs.Holding.{drafted, opened_stands, held_refused, held_broke, held_got, list_got, fields_got, context_got}

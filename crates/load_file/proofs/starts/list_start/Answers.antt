@@ -1,4 +1,4 @@
-use Rattle.std.proofs.Common.{◌≡◌, ℕ, [], replicate, refl}
+use Rattle.std.proofs.Common.{ℕ, [], replicate, refl}
 use Rattle.std.proofs.lemmas.Result.{err_from_is_err_and}
 use Rattle.refusal.specs.declared.Part.TheVariants.{Record}
 use Rattle.steps.specs.declared.parts.ListKind.{ListKind}

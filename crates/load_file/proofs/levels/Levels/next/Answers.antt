@@ -1,5 +1,5 @@
 use Rattle.std.proofs.Common.{◌<◌, length, refl, arith, get_or-set_other, get_or-set_same}
-use Rattle.load_file.specs.Levels.{blank, advanced}
+use Rattle.load_file.specs.Levels.{blank}
 use Rattle.load_file.proofs.levels.Levels.next.Goals as goal
 
 pub returns : goal.returns
