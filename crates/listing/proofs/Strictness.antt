@@ -1,6 +1,6 @@
 -- What is read is good, and the bytes that it is read from are the lines of what is read.
 use Rattle.std.proofs.Common.{◌≡◌, ℕ, ◌<◌, Bool, true, false, cond, not, ◌&&◌, eqb, List, [], ◌∷◌, ◌++◌, length, get_or, ℤ, pos, negsuc, Some, None, decimal, Option, sym, refl, ap, ◌∙◌, subst, ⊎_elim, append_assoc, arith}
-use Rattle.std.specs.List.{AllByRecursion as All}
+use Rattle.std.specs.List.{AllByRecursion}
 use Rattle.std.proofs.lemmas.Fmt.{decimal-digits_value}
 use Rattle.std.proofs.lemmas.Bool.{eqb-true, eq-eqb, and_parts, leb-true, both_ways}
 use Rattle.listing.specs.Pairs.{Pair, pair, good, good_name, good_delay, name_byte, digit, every}
@@ -85,8 +85,8 @@ module _ (f : Form) where
       let n : (f.head ++ (run name_byte rest ++ f.gap ∷ delay_text f k.0)) ++ newline ∷ [] ≡ line f (pair (run name_byte rest) k.0) = simp append_assoc in
       (ap (λ xs. xs ++ newline ∷ []) s ∙ n ∙ ap (line f) h, ap good (sym h) ∙ l.0)
 
-  lines_back : (before bs : List ℕ) (ps : List Pair) → read_on f before bs ≡ Some ps → (before ++ bs ≡ lines f ps) × All (λ p. good p ≡ true) ps
-  lines_back [] [] ps e = let h : [] ≡ ps = cc in subst (λ qs. ([] ≡ lines f qs) × All (λ p. good p ≡ true) qs) h (refl, tt)
+  lines_back : (before bs : List ℕ) (ps : List Pair) → read_on f before bs ≡ Some ps → (before ++ bs ≡ lines f ps) × AllByRecursion (λ p. good p ≡ true) ps
+  lines_back [] [] ps e = let h : [] ≡ ps = cc in subst (λ qs. ([] ≡ lines f qs) × AllByRecursion (λ p. good p ≡ true) qs) h (refl, tt)
   lines_back (b ∷ before) [] ps e = absurd (let z : ◌≡◌ {A = ℕ} 0 1 = cc in omega arith)
   lines_back before (b ∷ bs) ps e =
       ⊎_elim
@@ -99,12 +99,12 @@ module _ (f : Form) where
       let n : b ≡ newline = eqb-true b newline t in
       let o : before ++ b ∷ bs ≡ line f i.0 ++ lines f j.0 =
       ap (λ c. before ++ c ∷ bs) n ∙ sym (append_assoc before (newline ∷ []) bs) ∙ ap (λ xs. xs ++ bs) l.0 ∙ ap (λ xs. line f i.0 ++ xs) m.0 in
-      subst (λ qs. (before ++ b ∷ bs ≡ lines f qs) × All (λ p. good p ≡ true) qs) h (o, (l.1, m.1)))
+      subst (λ qs. (before ++ b ∷ bs ≡ lines f qs) × AllByRecursion (λ p. good p ≡ true) qs) h (o, (l.1, m.1)))
       (λ t.
       let m = lines_back (before ++ b ∷ []) bs ps (rw t at e) in
       (sym (append_assoc before (b ∷ []) bs) ∙ m.0, m.1))
       (is_true (eqb b newline))
 
 -- bytes that mean pairs are the lines of these pairs, and the pairs are good
-pub read_back : (f : Form) (bs : List ℕ) (ps : List Pair) → read f bs ≡ Some ps → (bs ≡ lines f ps) × All (λ p. good p ≡ true) ps
+pub read_back : (f : Form) (bs : List ℕ) (ps : List Pair) → read f bs ≡ Some ps → (bs ≡ lines f ps) × AllByRecursion (λ p. good p ≡ true) ps
 read_back f bs ps e = lines_back f [] bs ps e

@@ -1,7 +1,7 @@
 -- What lent memory holds, means and has to spare, of which the first bytes are used.
 use Rattle.std.specs.Prelude.{◌≡◌, ℕ, ◌+◌, ◌-◌, ◌≤◌, Bool, true, ◌&&◌, List, [], ◌++◌, length, take, drop, is_some, Some, nat_le}
 use Rattle.std.specs.Option.{unwrap_or}
-use Rattle.std.specs.List.{AllByRecursion as All}
+use Rattle.std.specs.List.{AllByRecursion}
 use Rattle.listing.specs.declared.buffer.Buffer.{Buffer}
 use Rattle.listing.specs.Pairs.{Pair, good}
 use Rattle.listing.specs.Forms.{Form, line, lines, read}
@@ -25,7 +25,7 @@ pub record Text (f : Form) (b : Buffer) (bytes : List ℕ) : Type 0 where
   pub used : bytes ≡ used_bytes b
   pub meant : read f bytes ≡ Some (means f b)
   pub written_as : bytes ≡ lines f (means f b)
-  pub all_good : All (λ p. good p ≡ true) (means f b)
+  pub all_good : AllByRecursion (λ p. good p ≡ true) (means f b)
 
 -- a good pair fits where its line fits in the unused bytes
 abbrev pub fits_in : Form → Buffer → Pair → Bool

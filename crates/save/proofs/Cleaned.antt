@@ -1,5 +1,5 @@
 -- The symbols of a document have no zero.
-use Rattle.std.proofs.Common.{◌≡◌, ℕ, Bool, true, false, cond, List, [], ◌∷◌, ◌++◌, length, sym}
+use Rattle.std.proofs.Common.{ℕ, Bool, true, false, cond, List, [], ◌∷◌, ◌++◌, length}
 use Rattle.steps.specs.declared.parts.Node.{Node}
 use Rattle.steps.specs.declared.parts.Node.TheVariants.{At}
 use Rattle.steps.specs.declared.parts.Holder.TheVariants.{List as OfList, Object as OfObject}

@@ -1,6 +1,6 @@
 -- The parts of a file.
-use Rattle.std.proofs.Common.{◌≡◌, ℕ, zero, suc, ◌+◌, ◌-◌, ◌*◌, ◌<◌, ◌≤◌, min, Bool, true, false, cond, ltb, List, [], ◌∷◌, ◌++◌, length, take, drop, set, sym, refl, ap, ◌∙◌, subst, append_assoc, zero-add, add-one, arith, length-append, length-set}
-use Rattle.std.proofs.lemmas.List.{take_more_set, drop-set-lt, take_at, drop_at, append-nil, take-append-drop}
+use Rattle.std.proofs.Common.{◌≡◌, ℕ, suc, ◌+◌, ◌<◌, ◌≤◌, min, Bool, true, false, cond, ltb, List, [], ◌∷◌, ◌++◌, length, take, drop, set, sym, refl, ap, ◌∙◌, subst, append_assoc, zero-add, arith, length-set}
+use Rattle.std.proofs.lemmas.List.{take_more_set, drop-set-lt, take-append-drop}
 use Rattle.steps.specs.Steps.{Name}
 use Rattle.redbin.specs.Bytes.{words}
 use Rattle.redbin.specs.Layout.{letters, version}

@@ -1,13 +1,12 @@
 -- Records of opened values and of shares, part after part.
-use Rattle.std.proofs.Common.{◌≡◌, ℕ, ◌+◌, ◌<◌, ◌≤◌, Bool, List, [], ◌∷◌, ◌++◌, map, length, sym, refl, ap, ◌∙◌, subst, arith}
+use Rattle.std.proofs.Common.{◌≡◌, ℕ, ◌≤◌, Bool, List, [], ◌∷◌, ◌++◌, map, length, sym, ap, ◌∙◌, subst, arith}
 use Rattle.steps.specs.declared.parts.Node.{Node}
 use Rattle.steps.specs.declared.parts.Node.TheVariants.{Root, At}
 use Rattle.steps.specs.declared.parts.ListKind.{ListKind}
-use Rattle.steps.specs.declared.parts.TextKind.{TextKind}
 use Rattle.steps.specs.declared.parts.Holder.TheVariants.{List as OfList, Object as OfObject}
 use Rattle.steps.specs.declared.parts.Share.{Share}
 use Rattle.steps.specs.declared.parts.Share.TheVariants.{List as ShareList, Text as ShareText, Object as ShareObject}
-use Rattle.redbin.specs.declared.form.Form.TheVariants.{List as is_list, Object as is_object, ShareText as shares_text, ShareList as shares_list, ShareObject as shares_object}
+use Rattle.redbin.specs.declared.form.Form.TheVariants.{List as is_list, Object as is_object}
 use Rattle.steps.specs.Steps.{Tag, open', share}
 use Rattle.steps.specs.Outline.{Entry, inner_names, path_to}
 use Rattle.redbin.specs.Bytes.{words}
@@ -16,7 +15,7 @@ use Rattle.redbin.specs.Canonical.{index_of, symbols, reference, record_of}
 use Rattle.save.specs.Sinks.{Output, Gained}
 use Rattle.save.specs.Values.{oldest, There}
 use Rattle.save.specs.Records.{share_words}
-use Rattle.save.proofs.Oldest.{oldest_all, length_oldest}
+use Rattle.save.proofs.Oldest.{length_oldest}
 use Rattle.save.proofs.Sane.{Under, path_to_oldest}
 use Rattle.save.proofs.Runs.{fields_then}
 

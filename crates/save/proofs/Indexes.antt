@@ -1,18 +1,15 @@
 -- The indexes of an object's names, one inner value after another.
-use Rattle.std.proofs.Common.{◌≡◌, ℕ, zero, suc, ◌+◌, ◌-◌, ◌<◌, ◌≤◌, Bool, true, false, cond, List, [], ◌∷◌, ◌++◌, map, length, sym, refl, ap, ◌∙◌, subst, ⊎_elim, arith}
+use Rattle.std.proofs.Common.{◌≡◌, ℕ, ◌+◌, ◌-◌, ◌<◌, ◌≤◌, true, false, List, [], ◌∷◌, ◌++◌, map, length, sym, ap, ◌∙◌, subst, ⊎_elim, arith}
 use Rattle.std.proofs.lemmas.Bool.{cases_lt}
 use Rattle.std.proofs.lemmas.List.{map_push, length_push}
 use Rattle.steps.specs.declared.parts.Node.{Node}
-use Rattle.steps.specs.declared.parts.Node.TheVariants.{Root, At}
 use Rattle.steps.specs.Steps.{Name}
 use Rattle.steps.specs.Outline.{Entry, entry_at, inner_names}
 use Rattle.redbin.specs.Bytes.{words}
 use Rattle.redbin.specs.Canonical.{index_of}
-use Rattle.redbin.proofs.Paths.{Sound}
 use Rattle.save.specs.Sinks.{Output, Gained}
 use Rattle.save.specs.Values.{oldest, held_by, name_in}
 use Rattle.save.proofs.Oldest.{oldest_all, inner_in, inner_out, inner_whole}
-use Rattle.save.proofs.Sane.{first_none}
 use Rattle.save.proofs.Runs.{fields_none, fields_then}
 
 module _ {S : Type 0} (f : S → Output) (xs : List Entry) (syms : List Name) (h : Node) where

@@ -1,13 +1,10 @@
 -- The first values of a document, one more at a time.
-use Rattle.std.proofs.Common.{◌≡◌, ℕ, zero, suc, ◌+◌, ◌-◌, ◌<◌, ◌≤◌, Bool, true, false, cond, eqb, ◌⊎◌, List, [], ◌∷◌, ◌++◌, length, drop, Some, None, Option, sym, refl, ap, ◌∙◌, inl, inr, ⊎_elim, append_assoc, arith, length-append, length-drop}
-use Rattle.std.proofs.lemmas.Bool.{ne_eqb}
+use Rattle.std.proofs.Common.{◌≡◌, ℕ, zero, suc, ◌+◌, ◌-◌, ◌<◌, ◌≤◌, true, false, cond, ◌⊎◌, List, [], ◌∷◌, ◌++◌, length, drop, Some, None, Option, sym, refl, ap, ◌∙◌, inl, inr, ⊎_elim, append_assoc, arith, length-append, length-drop}
 use Rattle.std.proofs.lemmas.List.{append-nil, nil_from_length}
 use Rattle.steps.specs.declared.parts.Node.{Node}
-use Rattle.steps.specs.declared.parts.Node.TheVariants.{Root, At}
 use Rattle.steps.specs.Steps.{Name, Tag}
 use Rattle.steps.specs.Outline.{Entry, entry_at, holder_in, label_in, same_holder, inner_names}
 use Rattle.steps.proofs.Entered.{entry_first, entry_later}
-use Rattle.redbin.proofs.Paths.{Sound, Held}
 use Rattle.save.specs.Values.{oldest, held_by, name_in}
 
 pub drop_none : (k : ℕ) (xs : List Entry) → k ≡ 0 → drop k xs ≡ xs

@@ -1,8 +1,8 @@
 -- The records of a document, value after value.
-use Rattle.std.proofs.Common.{◌≡◌, ℕ, zero, suc, ◌+◌, ◌-◌, ◌<◌, ◌≤◌, min, List, [], ◌∷◌, ◌++◌, length, Some, None, Option, sym, refl, ap, ◌∙◌, subst, ⊎_elim, arith}
+use Rattle.std.proofs.Common.{◌≡◌, ℕ, suc, ◌+◌, ◌-◌, ◌<◌, ◌≤◌, min, List, [], ◌∷◌, ◌++◌, length, Some, None, Option, sym, refl, ap, ◌∙◌, subst, ⊎_elim, arith}
 use Rattle.steps.specs.declared.parts.Node.{Node}
 use Rattle.steps.specs.declared.parts.Share.{Share}
-use Rattle.steps.specs.Steps.{Tag, Begun, put, open', share, begin, close, Steps}
+use Rattle.steps.specs.Steps.{Tag, Begun, share, begin, close, Steps}
 use Rattle.steps.specs.Outline.{Entry, values, entry_at, begun_at, label_in}
 use Rattle.steps.proofs.Entered.{begun_in, begun_entry, entry_first, entry_later}
 use Rattle.redbin.specs.Canonical.{record_of, payload}
@@ -10,7 +10,7 @@ use Rattle.save.specs.Sinks.{Output, full, Gained}
 use Rattle.save.specs.Values.{oldest, There}
 use Rattle.save.specs.Records.{Placed, recorded, records}
 use Rattle.save.proofs.Outputs.{gained_none, gained_then, size_extend}
-use Rattle.save.proofs.Oldest.{either, next, length_oldest, oldest_all, oldest_none, drop_one}
+use Rattle.save.proofs.Oldest.{either, next, oldest_all, oldest_none, drop_one}
 use Rattle.save.proofs.Sane.{Fine, Target, oldest_later}
 
 -- ---- one value

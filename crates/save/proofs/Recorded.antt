@@ -1,5 +1,5 @@
 -- Records of values that hold no others, part after part.
-use Rattle.std.proofs.Common.{◌≡◌, ℕ, zero, suc, ◌+◌, ◌-◌, ◌*◌, ◌/◌, ◌%◌, ◌<◌, ◌≤◌, min, Bool, true, false, cond, eqb, List, [], ◌∷◌, ◌++◌, length, ℤ, sym, refl, ap, ◌∙◌, subst, ⊎_elim, append_assoc, mul_assoc, mul_comm, mul-add, arith}
+use Rattle.std.proofs.Common.{◌≡◌, ℕ, ◌+◌, ◌-◌, ◌*◌, ◌/◌, ◌%◌, ◌<◌, ◌≤◌, Bool, true, false, cond, eqb, List, [], ◌∷◌, ◌++◌, length, ℤ, sym, refl, ap, ◌∙◌, subst, ⊎_elim, mul_assoc, mul_comm, mul-add, arith}
 use mir.Val.{bool_byte}
 use Rattle.std.proofs.lemmas.Bool.{eq-eqb, ne_eqb, cases_lt}
 use Rattle.steps.specs.Steps.{Tag, put, none, logic, char, integer, float, text}
@@ -11,7 +11,7 @@ use Rattle.redbin.specs.Layout.{header}
 use Rattle.redbin.specs.Canonical.{unit, bits32, padding, record_of}
 use Rattle.save.specs.Sinks.{Output, full, extend, Gained}
 use Rattle.save.specs.Records.{Placed}
-use Rattle.save.proofs.Outputs.{gained_none, gained_then, extend_none, extend_full}
+use Rattle.save.proofs.Outputs.{gained_then, extend_none, extend_full}
 use Rattle.save.proofs.Runs.{fields_then}
 
 -- where the output is not full, the place is how many bytes came since the start
@@ -75,6 +75,6 @@ fill_last u n = ap (λ x. (4 - x) % 4) e where
       let m : u * n ≡ u * (n % 4) + 4 * (u * (n / 4)) = ap (λ x. u * x) d ∙ mul-add u (n % 4) (4 * (n / 4)) ∙ ap (λ x. u * (n % 4) + x) (sym (mul_assoc u 4 (n / 4)) ∙ ap (λ x. x * (n / 4)) (mul_comm u 4) ∙ mul_assoc 4 u (n / 4)) in
       omega arith
 
-pub bool_byte : (b : Bool) → bool_byte b ≡ cond b 1 0
-bool_byte true = refl
-bool_byte false = refl
+pub bool_byte_lem : (b : Bool) → bool_byte b ≡ cond b 1 0
+bool_byte_lem true = refl
+bool_byte_lem false = refl

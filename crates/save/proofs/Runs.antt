@@ -1,8 +1,8 @@
 -- Fields, one after another.
-use Rattle.std.proofs.Common.{◌≡◌, ℕ, zero, suc, ◌+◌, ◌<◌, ◌≤◌, List, [], ◌∷◌, ◌++◌, length, get_or, take, sym, refl, ap, ◌∙◌, append_assoc, arith}
+use Rattle.std.proofs.Common.{◌≡◌, ℕ, ◌+◌, ◌<◌, ◌≤◌, List, [], ◌∷◌, ◌++◌, length, get_or, take, sym, refl, ap, ◌∙◌, append_assoc}
 use Rattle.std.proofs.lemmas.List.{append-nil, take_more, take_all}
 use Rattle.redbin.specs.Bytes.{bytes_of, fields, words}
-use Rattle.save.specs.Sinks.{Output, extend, Gained}
+use Rattle.save.specs.Sinks.{Output, Gained}
 use Rattle.save.proofs.Outputs.{gained_none, gained_then}
 
 pub fields_append : (k : ℕ) (ns ms : List ℕ) → fields k (ns ++ ms) ≡ fields k ns ++ fields k ms

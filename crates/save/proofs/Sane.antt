@@ -1,19 +1,19 @@
 -- What holds of the values of lawful steps.
-use Rattle.std.proofs.Common.{◌≡◌, ℕ, zero, suc, ◌+◌, ◌-◌, ◌<◌, ◌≤◌, Bool, true, false, cond, ◌&&◌, eqb, ltb, leb, List, [], ◌∷◌, ◌++◌, length, Some, None, Option, sym, refl, ap, ◌∙◌, subst, ⊎_elim, arith, length-append}
-use Rattle.std.proofs.lemmas.Bool.{eq-eqb, ne_eqb, eqb-true, eqb-false, and_parts, cases_lt}
+use Rattle.std.proofs.Common.{◌≡◌, ℕ, suc, ◌+◌, ◌-◌, ◌<◌, ◌≤◌, Bool, true, false, cond, ◌&&◌, eqb, ltb, leb, List, [], ◌∷◌, ◌++◌, length, Some, sym, refl, ap, ◌∙◌, subst, ⊎_elim, arith, length-append}
+use Rattle.std.proofs.lemmas.Bool.{eq-eqb, ne_eqb, eqb-true, and_parts, cases_lt}
 use Rattle.std.proofs.lemmas.List.{append-nil}
 use Rattle.steps.specs.declared.parts.Node.{Node}
 use Rattle.steps.specs.declared.parts.Node.TheVariants.{Root, At}
 use Rattle.steps.specs.Steps.{Name, Begun, put, open', share, begin, close, Steps}
 use Rattle.steps.specs.Utf8.{utf8, no_zero, lawful_name}
-use Rattle.steps.specs.Outline.{Entry, Opened, values, opened, in_object, entry_at, holder_in, same_holder, inner, inner_names, suits, share_family, way, path_of, path_to}
+use Rattle.steps.specs.Outline.{Entry, Opened, values, opened, in_object, entry_at, holder_in, same_holder, inner, inner_names, share_family, way, path_of, path_to}
 use Rattle.steps.specs.Law.{Memory, Lawful, name_ok, begun_ok, share_ok}
 use Rattle.steps.proofs.Entered.{entry_first, entry_later}
 use Rattle.document.specs.declared.store.Store.{Store}
 use Rattle.document.specs.Standing.{standing, memory_lent, Kept}
 use Rattle.redbin.proofs.Paths.{Sound, Held, outline_sound, suits_own, path_later}
-use Rattle.redbin.proofs.Whole.{Allowed, allowed}
-use Rattle.save.specs.Values.{oldest, name_in, or_root, above, climbed, place_of, There, first_inner}
+use Rattle.redbin.proofs.Whole.{allowed}
+use Rattle.save.specs.Values.{oldest, name_in, or_root, above, place_of, There, first_inner}
 use Rattle.save.proofs.Oldest.{either, drop_one, drop_none, inner_none, length_oldest}
 
 -- the target of a share was begun before it

@@ -1,6 +1,6 @@
 -- The whole file.
-use Rattle.std.proofs.Common.{◌≡◌, ℕ, zero, suc, ◌+◌, ◌-◌, ◌*◌, ◌<◌, ◌≤◌, min, Bool, true, false, cond, not, ◌&&◌, ltb, leb, ◌⊎◌, List, [], ◌∷◌, ◌++◌, length, take, drop, Some, None, Option, sym, refl, ap, ◌∙◌, subst, inl, inr, ⊎_elim, append_assoc, arith, length-append}
-use Rattle.std.proofs.lemmas.List.{take_at, drop_at, append-nil}
+use Rattle.std.proofs.Common.{◌≡◌, ℕ, zero, suc, ◌+◌, ◌-◌, ◌*◌, ◌<◌, ◌≤◌, min, Bool, true, false, cond, not, ◌&&◌, ltb, leb, ◌⊎◌, List, [], ◌∷◌, ◌++◌, length, take, drop, Some, None, Option, sym, refl, ap, ◌∙◌, subst, inl, inr, append_assoc, arith, length-append}
+use Rattle.std.proofs.lemmas.List.{take_at, drop_at}
 use Rattle.std.proofs.lemmas.Bool.{lt-ltb, lt-leb, le-leb, and_from, and_left, and_right, cases_lt}
 use Rattle.steps.specs.declared.parts.Node.TheVariants.{Root}
 use Rattle.refusal.specs.declared.Reason.{Reason}
@@ -14,7 +14,7 @@ use Rattle.redbin.specs.Canonical.{symbols, strings, offsets, table, flags_for, 
 use Rattle.redbin.proofs.Fields.{length_fields}
 use Rattle.redbin.proofs.Table.{offsets_length}
 use Rattle.save.specs.Sinks.{Output, full, extend, Gained}
-use Rattle.save.specs.Symbols.{Clean, Tabled, Ready}
+use Rattle.save.specs.Symbols.{Clean, Ready}
 use Rattle.save.specs.Sizes.{Counted, Exact, file_size}
 use Rattle.save.specs.Saves.{all_closed, save_refusal, with_file}
 use Rattle.save.proofs.Filed.{extend_fits, fits_memory, memory_length, home_extend}

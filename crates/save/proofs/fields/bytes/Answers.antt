@@ -1,4 +1,4 @@
-use Rattle.std.proofs.Common.{arith, rules}
+use Rattle.std.proofs.Common.{rules}
 use Rattle.save.proofs.Outputs.{gained_none, gained_more, gained_all}
 use Rattle.save.proofs.fields.bytes.Goals as goal
 

@@ -1,4 +1,4 @@
-use Rattle.std.proofs.Common.{arith, rules}
+use Rattle.std.proofs.Common.{rules}
 use Rattle.save.proofs.Runs.{fields_none, fields_more, fields_all}
 use Rattle.save.proofs.fields.fields.Goals as goal
 

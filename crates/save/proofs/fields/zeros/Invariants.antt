@@ -4,4 +4,4 @@ use Rattle.save.proofs.fields.zeros.Given as goal
 
 -- so many zeros were written
 abbrev pub invariant-loop-i : goal.invariant-loop-i
-invariant-loop-i g l = Gained g.S.Sink.output l.initial.sink (zeros l.-i) l.sink
+invariant-loop-i g l = Gained g.S.Sink.output l.initial.sink (zeros l._i) l.sink

@@ -1,4 +1,4 @@
-use Rattle.std.proofs.Common.{sym, refl, arith}
+use Rattle.std.proofs.Common.{arith}
 use Rattle.steps.specs.Outline.{values}
 use Rattle.document.specs.Standing.{standing}
 use Rattle.save.proofs.Climbs.{count_below}

@@ -1,4 +1,4 @@
-use Rattle.std.proofs.Common.{◌≡◌, ◌+◌, ◌<◌, [], length, get_or, sym, refl, ap, ◌∙◌, subst, arith}
+use Rattle.std.proofs.Common.{◌+◌, [], get_or, refl, ap, ◌∙◌, arith}
 use Rattle.steps.specs.Outline.{values}
 use Rattle.document.specs.Standing.{standing}
 use Rattle.save.specs.Names.{in_order}
@@ -13,7 +13,7 @@ pub returns-then-is_same : goal.returns-then-is_same
 returns-then-is_same c =
     let ns = in_order (values (standing c.args.store.now)) in
     let n = c.in-Some.ensures.name in
-    listed_found c.args.name.now ns c.loop-i.-i c.args.end _ (omega arith) c.requires.within (n.name ∙ ap (λ k. get_or ns k []) c.loop-i.invariant.1) c.loop-i.invariant.2 c.if-is_same.ensures
+    listed_found c.args.name.now ns c.loop-i._i c.args.end _ (omega arith) c.requires.within (n.name ∙ ap (λ k. get_or ns k []) c.loop-i.invariant.1) c.loop-i.invariant.2 c.if-is_same.ensures
 
 pub loop-i-preserved : goal.loop-i-preserved
 loop-i-preserved c =
@@ -21,5 +21,5 @@ loop-i-preserved c =
     let n = c.in-Some.ensures.name in (
       c.in-Some.ensures.stands,
       n.onward ∙ ap (λ k. k + 1) c.loop-i.invariant.1,
-      listed_not c.args.name.now ns c.loop-i.-i _ (omega (arith, n.within, c.loop-i.invariant.1)) (n.name ∙ ap (λ k. get_or ns k []) c.loop-i.invariant.1) c.loop-i.invariant.2 c.if-is_same.ensures,
+      listed_not c.args.name.now ns c.loop-i._i _ (omega (arith, n.within, c.loop-i.invariant.1)) (n.name ∙ ap (λ k. get_or ns k []) c.loop-i.invariant.1) c.loop-i.invariant.2 c.if-is_same.ensures,
     )

@@ -1,4 +1,4 @@
-use Rattle.std.proofs.Common.{◌≡◌, true, sym, refl, ap, ◌∙◌, subst, arith}
+use Rattle.std.proofs.Common.{◌≡◌, true, sym, subst, arith}
 use Rattle.steps.specs.declared.parts.Node.TheVariants.{At}
 use Rattle.steps.specs.Utf8.{no_zero}
 use Rattle.steps.specs.Outline.{values}

@@ -1,5 +1,5 @@
 use Rattle.std.proofs.Common.{Some, ap, ◌∙◌, arith}
-use Rattle.steps.specs.Given.{tag, begun}
+use Rattle.steps.specs.Given.{begun}
 use Rattle.steps.specs.Outline.{values}
 use Rattle.document.specs.Standing.{standing}
 use Rattle.save.proofs.Sane.{kept_fine}

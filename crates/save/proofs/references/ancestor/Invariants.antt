@@ -6,4 +6,4 @@ use Rattle.save.proofs.references.ancestor.Given as goal
 
 -- so many holders up
 abbrev pub invariant-loop-i : goal.invariant-loop-i
-invariant-loop-i l = l.node ≡ climbed (values (standing l.store)) l.-i l.initial.node
+invariant-loop-i l = l.node ≡ climbed (values (standing l.store)) l._i l.initial.node

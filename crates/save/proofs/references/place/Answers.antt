@@ -1,4 +1,4 @@
-use Rattle.std.proofs.Common.{◌≡◌, ◌≤◌, length, sym, ap, ◌∙◌, subst, arith}
+use Rattle.std.proofs.Common.{◌≤◌, length, sym, ap, ◌∙◌, subst, arith}
 use Rattle.steps.specs.Outline.{values, inner_names}
 use Rattle.document.specs.Standing.{standing}
 use Rattle.save.specs.Values.{oldest, first_inner}

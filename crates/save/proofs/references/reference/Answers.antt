@@ -1,4 +1,4 @@
-use Rattle.std.proofs.Common.{◌≡◌, ◌-◌, sym, ap, ◌∙◌, subst, arith}
+use Rattle.std.proofs.Common.{◌≡◌, ◌-◌, sym, ap, subst, arith}
 use Rattle.steps.specs.Outline.{values, path_to}
 use Rattle.document.specs.Standing.{standing}
 use Rattle.redbin.specs.Bytes.{words}

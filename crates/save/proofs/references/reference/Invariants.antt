@@ -1,4 +1,3 @@
-use Rattle.std.proofs.Common.{◌≤◌}
 use Rattle.steps.specs.Outline.{values, path_to}
 use Rattle.document.specs.Standing.{standing}
 use Rattle.redbin.specs.Bytes.{words}

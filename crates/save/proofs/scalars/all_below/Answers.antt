@@ -1,4 +1,4 @@
-use Rattle.std.proofs.Common.{sym, ap, ◌∙◌, arith}
+use Rattle.std.proofs.Common.{sym, ◌∙◌, arith}
 use Rattle.save.proofs.Texts.{above_here, below_here, below_end}
 use Rattle.save.proofs.scalars.all_below.Goals as goal
 

@@ -1,9 +1,5 @@
-use Rattle.std.proofs.Common.{sym, ap, subst, w32, rules}
+use Rattle.std.proofs.Common.{w32, rules}
 use Rattle.std.proofs.lemmas.Int.{to_z-of_z}
-use Rattle.steps.specs.Steps.{put, integer}
-use Rattle.steps.specs.Given.{tag, content}
-use Rattle.redbin.specs.Canonical.{record_of}
-use Rattle.save.specs.Sinks.{Gained}
 use Rattle.save.proofs.scalars.put.Goals as goal
 
 pub returns-in-Integer : goal.returns-in-Integer

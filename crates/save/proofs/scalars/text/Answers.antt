@@ -1,4 +1,3 @@
-use Rattle.std.proofs.Common.{sym, ap, ◌∙◌}
 use Rattle.save.proofs.Recorded.{text_recorded, fill_last}
 use Rattle.save.proofs.scalars.text.Goals as goal
 

@@ -1,4 +1,4 @@
-use Rattle.std.proofs.Common.{sym, ap, ◌∙◌, arith}
+use Rattle.std.proofs.Common.{arith}
 use Rattle.redbin.specs.Canonical.{unit}
 use Rattle.save.proofs.scalars.unit.Goals as goal
 

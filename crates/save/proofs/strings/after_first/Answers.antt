@@ -1,4 +1,4 @@
-use Rattle.std.proofs.Common.{length, sym, ap, arith, length-drop}
+use Rattle.std.proofs.Common.{length, ap, arith, length-drop}
 use Rattle.std.proofs.lemmas.List.{take_rest}
 use Rattle.save.proofs.Stored.{ends_here, ends_later, ends_none}
 use Rattle.save.proofs.strings.after_first.Goals as goal

@@ -1,4 +1,4 @@
-use Rattle.std.proofs.Common.{sym, arith}
+use Rattle.std.proofs.Common.{arith}
 use Rattle.save.proofs.Stored.{first_same, first_has, not_first}
 use Rattle.save.proofs.strings.is_first.Goals as goal
 

@@ -1,6 +1,4 @@
-use Rattle.std.proofs.Common.{sym, ap, ◌∙◌, arith}
-use Rattle.std.proofs.lemmas.List.{set_past}
-use Rattle.save.specs.Sinks.{Output}
+use Rattle.std.proofs.Common.{sym}
 use Rattle.save.proofs.Outputs.{push_low, push_past}
 use Rattle.save.proofs.sink.WriterSink.push.Goals as goal
 use Rattle.save.proofs.sink.WriterSink.push.Goals.{then-at-self, else-at-self}
