@@ -1,5 +1,5 @@
 -- What the calls on a store say, as calls on a draft.
-use Rattle.std.proofs.Common.{◌≡◌, ℕ, List, [], ◌∷◌, length, Some, None, Ok, Err, Option, Result, sym, refl, ap, ◌∙◌, subst}
+use Rattle.std.proofs.Common.{◌≡◌, ℕ, List, [], ◌∷◌, length, Ok, Err, Result, sym, refl, ap, ◌∙◌, subst}
 use std.Logic.{∥∥₁_prop}
 use Rattle.refusal.specs.declared.Reason.{Reason}
 use Rattle.refusal.specs.declared.Refusal.{Refusal}
@@ -7,14 +7,14 @@ use Rattle.refusal.specs.Numbers.{number}
 use Rattle.document.specs.declared.store.Store.{Store}
 use Rattle.steps.specs.Steps.{Tag, Begun, Step, begin, close, Steps}
 use Rattle.steps.specs.Outline.{values}
-use Rattle.steps.specs.Law.{Memory, refusal, Stepped, Unstepped}
+use Rattle.steps.specs.Law.{Memory, refusal, Stepped}
 use Rattle.document.specs.Standing.{Kept, Took, TookBack}
 use Rattle.redbin.proofs.Meant.{gives_file_steps}
 use Rattle.save.specs.Saves.{Saved}
 use Rattle.load_file.specs.Files.{Loaded, Untouched as StoreUntouched}
 use Rattle.gillsieve.specs.declared.draft.Draft.{Draft}
 use Rattle.gillsieve.specs.Drafts.{steps_of, memory_of}
-use Rattle.gillsieve.specs.Events.{Event, began, closed, taken_back, loaded, saved, loaded_as, earlier, after, back_refusal, Answered, answered, Right, Still, Untouched, Stays, Did}
+use Rattle.gillsieve.specs.Events.{began, closed, taken_back, loaded, saved, loaded_as, earlier, after, back_refusal, Answered, answered, Untouched, Did}
 
 -- a draft is its store: what it keeps holds in one way
 same_draft : (d e : Draft) → e.store ≡ d.store → e ≡ d

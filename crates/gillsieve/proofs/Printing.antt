@@ -1,8 +1,7 @@
 -- What a print does, by what the listing took.
-use Rattle.std.proofs.Common.{◌≡◌, ℕ, zero, suc, ◌<◌, Bool, true, false, cond, not, ◌||◌, ltb, List, [], ◌∷◌, ◌++◌, length, get_or, take, pos, Some, None, Ok, Err, Option, Result, sym, refl, ap, ◌∙◌, subst, append_assoc, arith}
+use Rattle.std.proofs.Common.{◌≡◌, ℕ, zero, suc, ◌<◌, Bool, true, false, cond, not, ◌||◌, ltb, List, [], ◌∷◌, ◌++◌, length, get_or, take, pos, Some, None, Ok, Err, Option, Result, sym, refl, ap, ◌∙◌, append_assoc, arith}
 use Rattle.std.proofs.lemmas.List.{append-nil}
 use Rattle.refusal.specs.declared.Reason.{Reason}
-use Rattle.refusal.specs.declared.Reason.TheVariants.{DoesNotFit}
 use Rattle.refusal.specs.declared.Refusal.{Refusal}
 use Rattle.refusal.specs.Numbers.{number}
 use Rattle.steps.specs.declared.parts.Node.{Node}
@@ -10,11 +9,11 @@ use Rattle.steps.specs.declared.parts.Node.TheVariants.{Root, At}
 use Rattle.steps.specs.Steps.{Tag, Begun, Steps}
 use Rattle.steps.specs.Outline.{Entry, values, opened}
 use Rattle.listing.specs.Pairs.{Pair, pair, good}
-use Rattle.listing.specs.Listings.{refusal, Added, AddedAll, Gave}
+use Rattle.listing.specs.Listings.{refusal, AddedAll, Gave}
 use Rattle.delays.specs.Delays.{listed, delay_in, one_or_none, delays, bad_pair, offends, or_else, offender}
 use Rattle.gillsieve.specs.declared.draft.Draft.{Draft}
 use Rattle.gillsieve.specs.Drafts.{steps_of}
-use Rattle.gillsieve.specs.Events.{printed, answered, not_tuning, print_refusal, Printed, Listed, Did}
+use Rattle.gillsieve.specs.Events.{printed, answered, print_refusal, Printed, Listed, Did}
 
 -- ---- the delays of a tuning document are good pairs
 

@@ -12,7 +12,7 @@ use Rattle.steps.specs.Law.{Memory, Lawful, Closed, unless}
 use Rattle.document.proofs.Propositions.{kept_of}
 use Rattle.redbin.specs.Layout.{largest_file}
 use Rattle.redbin.specs.Canonical.{canonical}
-use Rattle.redbin.specs.Reading.{load, file_steps}
+use Rattle.redbin.specs.Reading.{load}
 use Rattle.redbin.specs.Promises.{Fits, Writable}
 use Rattle.redbin.proofs.Elsewhere.{reads_back, tells_apart}
 use Rattle.redbin.proofs.Meant.{gives_file_steps}
@@ -22,8 +22,8 @@ use Rattle.delays.specs.Delays.{delays}
 use Rattle.gillsieve.specs.declared.draft.Draft.{Draft}
 use Rattle.gillsieve.specs.Drafts.{steps_of, memory_of}
 use Rattle.save.specs.Saves.{all_closed, save_refusal}
-use Rattle.gillsieve.specs.Events.{Event, loaded, saved, printed, after, Answered, Right, Did, loaded_as, print_refusal, Printed}
-use Rattle.gillsieve.specs.Histories.{Made, History, reckoned, Call, steps_at, Wrote, Keeps, Promise}
+use Rattle.gillsieve.specs.Events.{Event, loaded, saved, printed, after, Answered, Right, Did, loaded_as, Printed}
+use Rattle.gillsieve.specs.Histories.{History, reckoned, Call, steps_at, Wrote, Promise}
 
 -- ---- a history's draft is as its calls say
 

@@ -2,11 +2,10 @@
 use Rattle.std.specs.Prelude.{◌≡◌, ℕ, ◌<◌, Bool, false, cond, List, [], ◌∷◌, ◌++◌, length, take, pos, Some, None, Ok, Err, Option, Result, slice_index_or}
 use Rattle.refusal.specs.declared.Reason.{Reason}
 use Rattle.refusal.specs.declared.Reason.TheVariants.{StillOpen, NothingThere, DoesNotFit, NotTuning}
-use Rattle.refusal.specs.declared.Part.{Part}
 use Rattle.refusal.specs.declared.Part.TheVariants.{Draft as DraftPart}
 use Rattle.refusal.specs.declared.Refusal.{Refusal}
 use Rattle.refusal.specs.Numbers.{number}
-use Rattle.steps.specs.Steps.{Tag, Begun, Step, begin, close, Steps}
+use Rattle.steps.specs.Steps.{Tag, Begun, begin, close, Steps}
 use Rattle.steps.specs.Outline.{values}
 use Rattle.steps.specs.Law.{Memory, refusal}
 use Rattle.redbin.specs.Canonical.{canonical}

@@ -6,7 +6,7 @@ pub close-result-requires : goal.close-result-requires
 close-result-requires c = kept_of _ c.args.self.now.kept
 
 pub invariant_of-self : goal.invariant_of-self
-invariant_of-self c = (∣ c.close-result.ensures.kept ∣₁, tt)
+invariant_of-self c = record { kept = ∣ c.close-result.ensures.kept ∣₁ }
 
 pub returns : goal.returns
 returns c = did_close _ _ c.close-result.result c.answer.result c.answer.ensures c.close-result.ensures

@@ -1,4 +1,4 @@
 use Rattle.gillsieve.proofs.draft.Draft.new.Goals as goal
 
 pub invariant_of-result : goal.invariant_of-result
-invariant_of-result c = (∣ c.new-store.ensures.kept ∣₁, tt)
+invariant_of-result c = record { kept = ∣ c.new-store.ensures.kept ∣₁ }

@@ -6,7 +6,7 @@ pub share-result-requires : goal.share-result-requires
 share-result-requires c = kept_of _ c.args.self.now.kept
 
 pub invariant_of-self : goal.invariant_of-self
-invariant_of-self c = (∣ c.share-result.ensures.kept ∣₁, tt)
+invariant_of-self c = record { kept = ∣ c.share-result.ensures.kept ∣₁ }
 
 pub returns : goal.returns
 returns c = did_begin _ _ _ _ c.share-result.result c.answer.result c.answer.ensures c.share-result.ensures
