@@ -18,7 +18,9 @@ mod tests {
         assert_eq!(rt; listing.add(b"dirty", 10000), Ok(()));
         assert_eq!(rt; listing.add(b"muzzy", -1), Ok(()));
         assert_eq!(rt; listing.spare(), 1);
-        assert!(rt; listing.text() == b"#define PURGE_dirty 10000\n#define PURGE_muzzy -1\n");
+        assert!(rt;
+            listing.text() == b"#define PURGE_dirty 10000\n#define PURGE_muzzy -1\n".as_slice()
+        );
         assert!(rt; memory[49] == 7);
     }
 
@@ -29,7 +31,7 @@ mod tests {
         assert_eq!(rt; listing.add(b"dirty", 10000), Ok(()));
         assert_eq!(rt; listing.add(b"muzzy", -1), Ok(()));
         assert_eq!(rt; listing.spare(), 1);
-        assert!(rt; listing.text() == b"dirty\t10000 ms\nmuzzy\tnever\n");
+        assert!(rt; listing.text() == b"dirty\t10000 ms\nmuzzy\tnever\n".as_slice());
         assert!(rt; memory[27] == 7);
     }
 
@@ -45,7 +47,7 @@ mod tests {
         assert_eq!(rt; listing.add(TOO_LONG, 0), Err(Reason::NotTuning));
         assert!(rt; !listing.fits(b"a", -2));
         assert_eq!(rt; listing.add(b"_Z9", 3_600_000), Ok(()));
-        assert!(rt; listing.text() == b"_Z9\t3600000 ms\n");
+        assert!(rt; listing.text() == b"_Z9\t3600000 ms\n".as_slice());
     }
 
     #[test]

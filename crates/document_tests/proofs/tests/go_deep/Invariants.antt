@@ -2,4 +2,4 @@ use Rattle.document.specs.Standing.{Kept}
 use Rattle.document_tests.proofs.tests.go_deep.Given as goal
 
 abbrev pub invariant-loop : goal.invariant-loop
-invariant-loop l = Kept l.store
+invariant-loop g l = Kept l.store
