@@ -1,7 +1,7 @@
 #!/usr/bin/env python3
-"""Runs random scripts through `target/bin/edit` and through the model, and prints where they differ.
+"""Runs random scripts through `crates/edit/out/edit` and through the model, and prints where they differ.
 
-    rt check edit && python3 tools/compare.py [SCRIPTS [SEED]]
+    (cd crates/edit && rt run < /dev/null) && python3 tools/compare.py [SCRIPTS [SEED]]
 """
 import os
 import random
@@ -11,7 +11,7 @@ import sys
 import model
 
 HERE = os.path.dirname(os.path.abspath(__file__))
-EDIT = os.path.join(HERE, "..", "target", "bin", "edit")
+EDIT = os.path.join(HERE, "..", "crates", "edit", "out", "edit")
 
 NAMES = [b"a", b"b", b"dirty", b"", b"\xc3\xa9", b"\xe2\x82\xac", b"\xf0\x9f\x98\x80", b"\xc0\x80", b"\xed\xa0\x80", b"\xf4\x90\x80\x80", b"a\0", b"x" * 255, b"x" * 256]
 EDGES = [0, 1, 255, 256, 65535, 65536, 1114111, 1114112, 2147483647, 2147483648, 4294967295]

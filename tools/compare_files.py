@@ -1,7 +1,7 @@
 #!/usr/bin/env python3
-"""Runs files, sound and damaged, through `load` of `target/bin/edit` and through the model, and prints where they differ.
+"""Runs files, sound and damaged, through `load` of `crates/edit/out/edit` and through the model, and prints where they differ.
 
-    rt check edit && python3 tools/compare_files.py [FILES [SEED]]
+    (cd crates/edit && rt run < /dev/null) && python3 tools/compare_files.py [FILES [SEED]]
 
 A sound file is a random document in a random spelling: any unit that fits, padding or not, symbols in any order with
 repeats and unused names, paths through shares. A damaged one is a sound one with a byte, a field or a piece changed. Where
