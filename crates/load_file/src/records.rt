@@ -44,7 +44,7 @@ fn next_name<'f>(reader: &Reader<'f>, scope: Scope<'f>, level: LevelRecord) -> &
 }
 
 // One value, which has this name.
-#[cycle(content_context_hold_list_value_values)]
+#[cycle(records)]
 pub fn value<'f>(
     reader: &mut Reader<'f>,
     depth: &mut Depth,
@@ -82,7 +82,7 @@ pub fn value<'f>(
 }
 
 // What stands behind a value's header, which has this place.
-#[cycle(content_context_hold_list_value_values)]
+#[cycle(records)]
 fn content<'f>(
     reader: &mut Reader<'f>,
     depth: &mut Depth,
@@ -117,7 +117,7 @@ fn content<'f>(
 }
 
 // A list's head and length, and its values.
-#[cycle(content_context_hold_list_value_values)]
+#[cycle(records)]
 fn list<'f>(
     reader: &mut Reader<'f>,
     depth: &mut Depth,
@@ -138,7 +138,7 @@ fn list<'f>(
 }
 
 // An object's fields, its context, and the values that the context names.
-#[cycle(content_context_hold_list_value_values)]
+#[cycle(records)]
 fn context<'f>(
     reader: &mut Reader<'f>,
     depth: &mut Depth,
@@ -160,7 +160,7 @@ fn context<'f>(
 }
 
 // Opens a list or an object, reads the values in it, and closes it.
-#[cycle(content_context_hold_list_value_values)]
+#[cycle(records)]
 fn hold<'f>(
     reader: &mut Reader<'f>,
     depth: &mut Depth,
@@ -186,7 +186,7 @@ fn hold<'f>(
 }
 
 // The values that are left at a level, one level further in.
-#[cycle(content_context_hold_list_value_values)]
+#[cycle(records)]
 fn values<'f>(
     reader: &mut Reader<'f>,
     depth: &mut Depth,

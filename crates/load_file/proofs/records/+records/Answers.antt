@@ -20,7 +20,7 @@ use Rattle.load_file.proofs.Fine.{heading_fine}
 use Rattle.load_file.proofs.Holding.{drafted, opened_stands, held_refused, held_broke, held_got, list_got, fields_got, context_got}
 use Rattle.load_file.proofs.Objects.{none_named, none_placed, same_start, list_stop, list_then, object_stop, context_stop, context_then}
 use Rattle.load_file.proofs.Turns.{turn_prepared, turn_named, lower, turn_less, turn_again, turn_broke, turn_end, filled_at}
-use Rattle.load_file.proofs.records.+content_context_hold_list_value_values.Goals as goal
+use Rattle.load_file.proofs.records.+records.Goals as goal
 
 -- ---- content
 

@@ -1,7 +1,7 @@
 use Rattle.std.proofs.Common.{◌+◌, ◌*◌, get_or}
 use Rattle.load_file.specs.Levels.{blank}
 use Rattle.load_file.proofs.Turns.{Turning}
-use Rattle.load_file.proofs.records.+content_context_hold_list_value_values.Given as goal
+use Rattle.load_file.proofs.records.+records.Given as goal
 
 -- each level that is opened takes one from the depth; inside a level the calls go down this list
 abbrev pub decreases-value : goal.decreases-value
