@@ -8,13 +8,13 @@ use Rattle.redbin.specs.declared.form.Form.{Form}
 use Rattle.redbin.specs.declared.form.Form.TheVariants.{List as is_list, Object as is_object, ShareText as shares_text, ShareList as shares_list, ShareObject as shares_object}
 use Rattle.redbin.specs.Layout.{padding_type, none_type, logic_type, char_type, integer_type, float_type, text_type, list_type, object_type, unit_bits, share_mark, owner_mark}
 use Rattle.redbin.specs.Bytes.{bit}
-use Rattle.redbin.specs.Reading.{Reader, Setting, Heading, Announced, form, WrongType, wrong_bits, got, plain, text_form, list_form, object_form, announced, heading_by, heading_of, behind_padding, heading}
+use Rattle.redbin.specs.Reading.{Reader, Setting, Heading, Announced, form, wrong_type, wrong_bits, got, plain, text_form, list_form, object_form, announced, heading_by, heading_of, behind_padding, heading}
 use Rattle.redbin.proofs.Got.{came, same_value}
 use Rattle.load_file.specs.Values.{UnitFine}
 
 abbrev Right : Announced → Type 0
 Right (form f) = UnitFine f
-Right WrongType = Unit {0}
+Right wrong_type = Unit {0}
 Right wrong_bits = Unit {0}
 
 record Fine (a : Announced) : Type 0 where
@@ -73,7 +73,7 @@ by_fine : (c : Setting) (place : ℕ) (mark : Bool) (a : Announced) (r s : Reade
 by_fine c place mark (form f) r s h p e =
     let q : h ≡ record { place = place; form = f; new_line = mark } = same_value _ h r s e in
     rw q p.fact
-by_fine c place mark WrongType r s h p e = let z : ◌≡◌ {A = ℕ} 0 1 = cc in absurd (omega arith)
+by_fine c place mark wrong_type r s h p e = let z : ◌≡◌ {A = ℕ} 0 1 = cc in absurd (omega arith)
 by_fine c place mark wrong_bits r s h p e = let z : ◌≡◌ {A = ℕ} 0 1 = cc in absurd (omega arith)
 
 of_fine : (c : Setting) (place n : ℕ) (r s : Reader) (h : Heading) → heading_of c place n r ≡ got h s → UnitFine h.form

@@ -1,5 +1,5 @@
 -- The records of the levels that are open, and the names of the values that are left at a level.
-use Rattle.std.specs.Prelude.{◌≡◌, ℕ, ◌-◌, ◌*◌, ◌<◌, ◌≤◌, List, [], length, get_or, take, drop, replicate, Some, None, Option, ◌≢◌, slice_index_or}
+use Rattle.std.specs.Prelude.{◌≡◌, ℕ, ◌-◌, ◌*◌, ◌<◌, ◌≤◌, List, [], length, take, drop, replicate, Some, None, Option, ◌≢◌, slice_index_or}
 use Rattle.steps.specs.Steps.{Name}
 use Rattle.redbin.specs.Bytes.{number}
 use Rattle.redbin.specs.Reading.{named_by}
@@ -20,7 +20,7 @@ Changed before at r after = (slice_index_or after at blank ≡ r) × ((i : ℕ) 
 
 -- the record of a level with values left, which has one fewer then; or none is left
 abbrev pub Next : List LevelRecord → ℕ → Option LevelRecord → List LevelRecord → Type 0
-Next before at None after = ((get_or before at blank).left ≡ 0) × (after ≡ before)
+Next before at None after = ((slice_index_or before at blank).left ≡ 0) × (after ≡ before)
 Next before at (Some r) after = (r ≡ slice_index_or before at blank) × (0 < r.left) × Changed before at (advanced r) after
 
 -- the names of so many values; the last of their symbols ends before a place of the file, or they have none

@@ -10,7 +10,7 @@ use Rattle.redbin.specs.Layout.{padding_type}
 use Rattle.redbin.proofs.Drafted.{InDraft, in_draft}
 use Rattle.redbin.proofs.Fields.{Below}
 use Rattle.redbin.specs.Bytes.{bit, number}
-use Rattle.redbin.specs.Reading.{because, in_memory, suiting, Heading, Reader, Read, Reads, got, refused, after, here, push, refuse_when, enough, below, series, run, Announced, form, WrongType, wrong_bits, heading_by, heading_of, behind_padding, heading, room, target, on_boundary, add}
+use Rattle.redbin.specs.Reading.{because, in_memory, suiting, Heading, Reader, Read, Reads, got, refused, after, here, push, refuse_when, enough, below, series, run, Announced, form, wrong_type, wrong_bits, heading_by, heading_of, behind_padding, heading, room, target, on_boundary, add}
 use Rattle.refusal.specs.declared.Part.TheVariants.{Reference}
 use Rattle.refusal.specs.declared.Part.{Part}
 use Rattle.refusal.specs.declared.Reason.TheVariants.{BadPath}
@@ -94,7 +94,7 @@ run_got size part unit limit why k r ns s h =
 
 heading_by_got : (c : InDraft) (place : ℕ) (mark : Bool) (a : Announced) (r : Reader) (h : Heading) (s : Reader) → heading_by (in_draft c) place mark a r ≡ got h s → s.steps ≡ r.steps
 heading_by_got c place mark (form x) r h s e = ap (λ (y : Reader). y.steps) (same_reader _ h r s e)
-heading_by_got c place mark WrongType r h s e = let z : ◌≡◌ {A = ℕ} 0 1 = cc in absurd (omega arith)
+heading_by_got c place mark wrong_type r h s e = let z : ◌≡◌ {A = ℕ} 0 1 = cc in absurd (omega arith)
 heading_by_got c place mark wrong_bits r h s e = let z : ◌≡◌ {A = ℕ} 0 1 = cc in absurd (omega arith)
 
 heading_of_got : (c : InDraft) (place n : ℕ) (r : Reader) (h : Heading) (s : Reader) → heading_of (in_draft c) place n r ≡ got h s → s.steps ≡ r.steps

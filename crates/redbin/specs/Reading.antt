@@ -154,7 +154,7 @@ module _ (size : ℕ) where
 -- what a type and the bits 30-8 of a header announce
 pub data Announced : Type 0 where
   form : Form → Announced
-  WrongType wrong_bits : Announced
+  wrong_type wrong_bits : Announced
 
 abbrev pub plain : ℕ → Form → Announced
 plain bits f = cond (bits == 0) (form f) wrong_bits
@@ -193,7 +193,7 @@ announced type bits =
     (cond (type == list_type LitPath) (list_form bits LitPath)
     (cond (type == list_type SetPath) (list_form bits SetPath)
     (cond (type == list_type GetPath) (list_form bits GetPath)
-    (cond (type == object_type) (object_form bits) WrongType))))))))))))))
+    (cond (type == object_type) (object_form bits) wrong_type))))))))))))))
 
 -- a value's header that was read: its place, what it announces and the new-line mark
 pub record Heading : Type 0 where
@@ -242,7 +242,7 @@ module _ (c : Setting) where
   -- first the type (8), then the other bits (9), both at the header
   abbrev pub heading_by : ℕ → Bool → Announced → Reads Heading
   heading_by place mark (form f) = return (record { place = place; form = f; new_line = mark })
-  heading_by place mark WrongType = refuse BadType Record place
+  heading_by place mark wrong_type = refuse BadType Record place
   heading_by place mark wrong_bits = refuse BadBits Record place
 
   unfoldable pub heading_of : ℕ → ℕ → Reads Heading
