@@ -12,7 +12,8 @@ use document::store::Store;
 use refusal::{Part, Reason, Refusal};
 use steps::parts::{Label, Value};
 
-const CODEPOINT_END: u64 = 0x11_0000;
+// Codepoints stop here.
+pub(crate) const CODEPOINT_END: u64 = 0x11_0000;
 
 fn nothing_value<'v>() -> Value<'v>
     ensures { content_of result ≡ none }

@@ -12,12 +12,11 @@ ghost use Rattle.load.specs.Texts.{Decoded, decoded};
 use crate::encoded::Encoded;
 use crate::reader::Reader;
 use crate::runs::{number_at, span};
+use crate::scalars::CODEPOINT_END;
 use crate::unit::Width;
 use document::store::Store;
 use refusal::{Part, Reason, Refusal};
 use steps::parts::{Label, TextKind};
-
-const CODEPOINT_END: u64 = 0x11_0000;
 
 // The length of a text stops here.
 const LENGTH_END: u64 = 0x100_0000;

@@ -5,11 +5,8 @@ ghost use Rattle.load.specs.Ends.{payload_rest, nothing_left};
 ghost use Rattle.load.specs.Ran.{Did};
 
 use crate::reader::Reader;
+use crate::reader::start::{FLAGS_PLACE, TABLE_FLAG};
 use refusal::{Part, Reason, Refusal};
-
-const FLAGS_PLACE: usize = 7;
-
-const TABLE: u8 = 4;
 
 const PAYLOAD_SIZE_PLACE: usize = 12;
 
@@ -19,7 +16,7 @@ impl<'f> Reader<'f> {
         ensures { result ≡ (slice_index self.now.file.now flags_place == table_flag) }
     {
         let file = self.file;
-        file.len() > FLAGS_PLACE && file[FLAGS_PLACE] == TABLE
+        file.len() > FLAGS_PLACE && file[FLAGS_PLACE] == TABLE_FLAG
     }
 
     // The payload, which has this size, has to be the rest of the file.

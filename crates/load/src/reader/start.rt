@@ -17,9 +17,9 @@ const VERSION_PLACE: usize = 6;
 
 const VERSION: u8 = 2;
 
-const FLAGS_PLACE: usize = 7;
+pub(crate) const FLAGS_PLACE: usize = 7;
 
-const TABLE_FLAG: u8 = 4;
+pub(crate) const TABLE_FLAG: u8 = 4;
 
 fn has_letters(file: &[u8]) -> bool
     ensures { result ≡ same (take (length letters) file.now) letters }
