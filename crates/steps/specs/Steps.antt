@@ -8,7 +8,7 @@ use Rattle.steps.specs.declared.parts.Share.{Share}
 abbrev pub Name : Type 0
 Name = List ℕ
 
--- the new_line mark and the name of a value
+-- the new-line mark and the name of a value
 pub record Tag : Type 0 where
   pub new_line : Bool
   pub name : Name
