@@ -16,11 +16,11 @@ module _ {S : Type 0} (m : S → List Pair) (h : S → Pair → Bool) (l : S →
   all_append (p ∷ ps) qs s t u g k = (g.0, g.1, all_append ps qs g.0 t u g.2 k)
 
   -- one `add`
-  pub gave_one : {X : Type 0} (o : Option Pair) (p q : Pair) (s t : S) (r : Result X Reason) → Some p ≡ o → q ≡ p → refused_with r ≡ refusal (good q) (h s q) → IfOk r (λ _. Added m h l s q t) → IfErr r (λ _. t ≡ s) → Gave m h l s (one_or_none o) t r
-  gave_one {X = X} o p q s t r e z a b c = subst (λ w. Gave m h l s (one_or_none w) t r) (ap Some z ∙ e) (by r a b c) where
-    by : (r : Result X Reason) → refused_with r ≡ refusal (good q) (h s q) → IfOk r (λ _. Added m h l s q t) → IfErr r (λ _. t ≡ s) → Gave m h l s (q ∷ []) t r
+  pub gave_one : {X : Type 0} (o : Option Pair) (p : Pair) (s t : S) (r : Result X Reason) → Some p ≡ o → refused_with r ≡ refusal (good p) (h s p) → IfOk r (λ _. Added m h l s p t) → IfErr r (λ _. t ≡ s) → Gave m h l s (one_or_none o) t r
+  gave_one {X = X} o p s t r e a b c = subst (λ w. Gave m h l s (one_or_none w) t r) e (by r a b c) where
+    by : (r : Result X Reason) → refused_with r ≡ refusal (good p) (h s p) → IfOk r (λ _. Added m h l s p t) → IfErr r (λ _. t ≡ s) → Gave m h l s (p ∷ []) t r
     by (Ok x) a b c = (t, b, refl)
-    by (Err y) a b c = (0, omega arith, c, subst (λ v. Some (number y) ≡ refusal (good q) (h v q)) (sym c) a)
+    by (Err y) a b c = (0, omega arith, c, subst (λ v. Some (number y) ≡ refusal (good p) (h v p)) (sym c) a)
 
   pub gave_none : (o : Option Pair) (s : S) → None ≡ o → AddedAll m h l s (one_or_none o) s
   gave_none o s e = subst (λ w. AddedAll m h l s (one_or_none w) s) e refl

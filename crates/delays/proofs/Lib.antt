@@ -1,4 +1,3 @@
 pub mod Oldest
 pub mod Names
-pub mod Values
 pub mod Givings

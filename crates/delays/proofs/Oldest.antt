@@ -1,7 +1,11 @@
 -- The first values of a document, one more at a time.
-use Rattle.std.proofs.Common.{◌≡◌, ℕ, zero, suc, ◌+◌, ◌-◌, ◌<◌, ◌≤◌, true, false, cond, ◌⊎◌, List, [], ◌∷◌, ◌++◌, length, drop, Some, None, sym, refl, ap, ◌∙◌, inl, inr, ⊎_elim, arith, length-drop}
+use Rattle.std.proofs.Common.{◌≡◌, ℕ, zero, suc, ◌+◌, ◌-◌, ◌<◌, ◌≤◌, true, false, cond, List, [], ◌∷◌, ◌++◌, length, drop, Bool, Option, Some, None, sym, refl, ap, ◌∙◌, ⊎_elim, arith, length-drop}
+use Rattle.std.proofs.Math.Nat.{eq-or-lt_of_le}
+use Rattle.std.proofs.lemmas.Bool.{cases_lt}
 use Rattle.steps.specs.Outline.{Entry, entry_at}
-use Rattle.steps.proofs.Entered.{entry_first, entry_later}
+use Rattle.std.specs.List.{find, range_with_len}
+use Rattle.std.specs.Option.{option_map}
+use Rattle.steps.proofs.Entered.{entry_first, entry_later, entry_none}
 use Rattle.delays.specs.Delays.{one_or_none, delays, or_else, offender, oldest, delay_at, offends_at}
 
 drop_none : (k : ℕ) (xs : List Entry) → k ≡ 0 → drop k xs ≡ xs
@@ -15,12 +19,6 @@ pub record Next (xs : List Entry) (k : ℕ) : Type 0 where
   pub value : Entry
   pub stands : oldest (k + 1) xs ≡ value ∷ oldest k xs
   pub found : entry_at xs k ≡ Some value
-
-either : (k n : ℕ) → k ≤ n → (k ≡ n) ⊎ (k < n)
-either zero zero h = inl refl
-either zero (suc n) h = inr (omega arith)
-either (suc k) zero h = absurd (omega arith)
-either (suc k) (suc n) h = ⊎_elim (λ e. inl (ap suc e)) (λ l. inr (omega arith)) (either k n (omega arith))
 
 pub next : (xs : List Entry) (k : ℕ) → k < length xs → Next xs k
 next [] k h = absurd (omega arith)
@@ -39,7 +37,7 @@ next (x ∷ xs) k h =
       stands = drop_one (suc (length xs) - (k + 1)) (length xs - (k + 1)) x xs (omega arith) ∙ n.stands ∙ ap (λ ys. n.value ∷ ys) (sym (drop_one (suc (length xs) - k) (length xs - k) x xs (omega arith)));
       found = entry_later xs x k l ∙ n.found;
     })
-    (either k (length xs) (omega arith))
+    (eq-or-lt_of_le (omega (arith, h)))
 
 pub length_oldest : (xs : List Entry) (k : ℕ) → k ≤ length xs → length (oldest k xs) ≡ k
 length_oldest xs k h = length-drop (length xs - k) xs ∙ omega arith
@@ -53,6 +51,13 @@ oldest_none (x ∷ xs) = drop_one (suc (length xs) - 0) (length xs - 0) x xs (om
 
 -- ---- delays and offenders, one value more
 
+or_none : (o : Option ℕ) → o ≡ or_else o None
+or_none None = refl
+or_none (Some n) = refl
+
+or_none_back : (o : Option ℕ) → or_else o None ≡ o
+or_none_back o = sym (or_none o)
+
 pub delays_more : (xs : List Entry) (k : ℕ) → k < length xs → delays (oldest (k + 1) xs) ≡ delays (oldest k xs) ++ one_or_none (delay_at xs k)
 unfolding delays
 delays_more xs k h = let n = next xs k h in rw (n.stands, n.found)
@@ -61,27 +66,31 @@ pub offender_more : (xs : List Entry) (k : ℕ) → k < length xs → offender (
 unfolding offender
 offender_more xs k h = let n = next xs k h in let l = length_oldest xs k (omega arith) in rw (n.stands, n.found, l)
 
--- once a value offends, it is the lowest however many follow
-offender_up : (xs : List Entry) (k n d m : ℕ) → m ≡ k + d → offender (oldest k xs) ≡ Some n → m ≤ length xs → offender (oldest m xs) ≡ Some n
-offender_up xs k n zero m p e h = let q : m ≡ k = omega arith in ap (λ j. offender (oldest j xs)) q ∙ e
-offender_up xs k n (suc d) m p e h =
-    let q : m ≡ (k + d) + 1 = omega arith in
-    ap (λ j. offender (oldest j xs)) q ∙ offender_more xs (k + d) (omega arith) ∙ ap (λ o. or_else o (cond (offends_at xs (k + d)) (Some (k + d)) None)) (offender_up xs k n d (k + d) refl e (omega arith))
+-- ---- the lowest offender, found among numbers
 
-pub offender_stays : (xs : List Entry) (k n : ℕ) → offender (oldest k xs) ≡ Some n → k ≤ length xs → offender xs ≡ Some n
-offender_stays xs k n e h = ap offender (sym (oldest_all xs (length xs) (omega arith))) ∙ offender_up xs k n (length xs - k) (length xs) (omega arith) e (omega arith)
+or_else_later : (o : Option ℕ) (b : Bool) (n : ℕ) (later : Option ℕ) → or_else (or_else o (cond b (Some n) None)) later ≡ or_else o (cond b (Some n) later)
+or_else_later None true n later = refl
+or_else_later None false n later = refl
+or_else_later (Some m) b n later = refl
 
--- ---- a loop over the values looks for one that offends
+offender_past : (xs : List Entry) (k : ℕ) → length xs ≤ k → offender (oldest (k + 1) xs) ≡ or_else (offender (oldest k xs)) (cond (offends_at xs k) (Some k) None)
+offender_past xs k h = rw (oldest_all xs k h, oldest_all xs (k + 1) (omega (arith, h)), entry_none xs k h) (or_none (offender xs))
 
-pub offender_none : (xs : List Entry) → offender (oldest 0 xs) ≡ None
+offender_next : (xs : List Entry) (k : ℕ) → offender (oldest (k + 1) xs) ≡ or_else (offender (oldest k xs)) (cond (offends_at xs k) (Some k) None)
+offender_next xs k = ⊎_elim (offender_more xs k) (offender_past xs k) (cases_lt k (length xs))
+
+-- the offender among so many numbers from one on, behind the values before that
+pub offender_from : (xs : List Entry) (k n m : ℕ) → m ≡ k + n → or_else (offender (oldest k xs)) (find (offends_at xs) (range_with_len k n)) ≡ offender (oldest m xs)
+offender_from xs k zero m e = or_none_back (offender (oldest k xs)) ∙ ap (λ i. offender (oldest i xs)) (omega arith)
+offender_from xs k (suc n) m e =
+    sym (or_else_later (offender (oldest k xs)) (offends_at xs k) k (find (offends_at xs) (range_with_len (k + 1) n)))
+    ∙ ap (λ o. or_else o (find (offends_at xs) (range_with_len (k + 1) n))) (sym (offender_next xs k))
+    ∙ offender_from xs (k + 1) n m (omega arith)
+
+pub offender_range : (xs : List Entry) (n : ℕ) → n ≡ length xs → find (offends_at xs) (range_with_len 0 n) ≡ offender xs
 unfolding offender
-offender_none xs = rw oldest_none
+offender_range xs n e = ap (λ ys. or_else (offender ys) (find (offends_at xs) (range_with_len 0 n))) (sym (oldest_none xs)) ∙ offender_from xs 0 n n (omega arith) ∙ ap offender (oldest_all xs n (omega arith))
 
-pub offender_not : (xs : List Entry) (k : ℕ) → k < length xs → offender (oldest k xs) ≡ None → offends_at xs k ≡ false → offender (oldest (k + 1) xs) ≡ None
-offender_not xs k h p q = offender_more xs k h ∙ rw (p, q)
-
-pub offender_found : (xs : List Entry) (k : ℕ) → k < length xs → offender (oldest k xs) ≡ None → offends_at xs k ≡ true → offender xs ≡ Some k
-offender_found xs k h p q = offender_stays xs (k + 1) k (offender_more xs k h ∙ rw (p, q)) (omega arith)
-
-pub offender_all : (xs : List Entry) (k : ℕ) → length xs ≤ k → offender (oldest k xs) ≡ None → None ≡ offender xs
-offender_all xs k h p = sym p ∙ ap offender (oldest_all xs k h)
+pub mapped_same : (o : Option ℕ) → o ≡ option_map (λ n. n) o
+mapped_same None = refl
+mapped_same (Some n) = refl

@@ -3,7 +3,8 @@ use Rattle.std.specs.Prelude.{ℕ, ◌-◌, Bool, true, false, cond, not, ◌||�
 use Rattle.steps.specs.declared.parts.Node.{Node}
 use Rattle.steps.specs.declared.parts.Node.TheVariants.{Root, At}
 use Rattle.steps.specs.Steps.{Name, none, logic, char, integer, float, text, Begun, put, open', share}
-use Rattle.steps.specs.Outline.{Entry, is_object, entry_at}
+use Rattle.steps.specs.Outline.{Entry, entry_at}
+use Rattle.steps.specs.Build.{begun_object}
 use Rattle.listing.specs.Pairs.{Pair, pair, good}
 use Rattle.listing.specs.Forms.{same}
 
@@ -19,11 +20,6 @@ integer_in (put (float n)) = None
 integer_in (put (text k h ps)) = None
 integer_in (open' h) = None
 integer_in (share s t) = None
-
-abbrev pub opens_object : Begun → Bool
-opens_object (put v) = false
-opens_object (open' h) = is_object h
-opens_object (share s t) = false
 
 -- the pair of an integer with this name
 abbrev pub paired : Name → Option ℤ → Option Pair
@@ -59,7 +55,7 @@ bad_pair before (Some p) = not (good p) || listed p.name before
 
 -- a value offends behind earlier ones: a root value unless it is an opened object, an inner value unless it is a good pair
 abbrev pub offends_in : Node → List Entry → Entry → Bool
-offends_in Root xs x = not (opens_object x.begun)
+offends_in Root xs x = not (begun_object x.begun)
 offends_in (At h) xs x = bad_pair (delays xs) (delay_of x)
 
 abbrev pub offends : List Entry → Entry → Bool

@@ -9,7 +9,7 @@ use Rattle.steps.specs.Steps.{Tag, none, logic, char, integer, float, text, Begu
 use Rattle.steps.specs.Outline.{Entry, Opened, innermost, opening, values, opened, entry_at}
 use Rattle.steps.specs.Law.{Memory, cells, points, names, used, codepoints_of, refusal, unless, Lawful}
 use Rattle.steps.specs.Build.{Built, more, shut, adjust_at, sort_of, new_cell, apply, build, inside, deeper, holder_at, cell_at, entry_of, steps}
-use Rattle.document.specs.Standing.{Stands}
+use Rattle.document.specs.Stands.{Stands}
 use Rattle.steps.proofs.Adjusted.{length_adjust, length_adjust_at}
 use Rattle.steps.proofs.Told.{entries, tell_push, tell_adjust_at, tell_shut, tell_grow, entries_push, entries_adjust, entries_adjust_at, entries_grow, part_end, begun_end}
 use Rattle.steps.proofs.Good.{Good, good_begin, good_close, is_at, some_first}
@@ -102,7 +102,7 @@ close_depth d [] e = omega arith
 close_depth d (o ∷ os) e = omega arith
 
 pub close_open : (os : List Opened) → unless (ltb 0 (length os)) NothingThere None ≡ None → is_at (innermost os) ≡ true
-close_open [] h = let z : ◌≡◌ {A = ℕ} 0 1 = cc in absurd (omega (arith, z))
+close_open [] h = absurd cc
 close_open (o ∷ os) h = refl
 
 pub told_close : (m : Built) → is_at m.innermost ≡ true → Good m → steps (apply close m) ≡ close ∷ steps m

@@ -18,7 +18,7 @@ use Rattle.steps.specs.Build.{more_in, more, shut, count_in, blank, cell_at, adj
 use Rattle.steps.proofs.Adjusted.{length_adjust, length_adjust_at}
 use Rattle.steps.proofs.Entered.{Linked, linked, begun_entry, begun_in}
 use Rattle.steps.proofs.Good.{at_adjust}
-use Rattle.document.specs.Standing.{in_use, standing, memory_lent, Kept}
+use Rattle.document.specs.Standing.{in_use, standing, memory_lent}
 use Rattle.document.proofs.Agreed.{value_count, agrees_build}
 use Rattle.document.proofs.Reading.{read_at}
 
@@ -135,17 +135,17 @@ counts_build M (close ∷ e) l =
 -- ---- a store
 
 opened_count : (p : List ℕ) (s : Sort) (h : Holder) (n : ℕ) → Some (begun_of p s) ≡ Some (open' h) → Counts s n → count_in s ≡ n
-opened_count p Nothing h n e c = absurd (let z : ◌≡◌ {A = ℕ} 0 1 = cc in omega arith)
-opened_count p (Logic b) h n e c = absurd (let z : ◌≡◌ {A = ℕ} 0 1 = cc in omega arith)
-opened_count p (Char x) h n e c = absurd (let z : ◌≡◌ {A = ℕ} 0 1 = cc in omega arith)
-opened_count p (Integer x) h n e c = absurd (let z : ◌≡◌ {A = ℕ} 0 1 = cc in omega arith)
-opened_count p (Float f) h n e c = absurd (let z : ◌≡◌ {A = ℕ} 0 1 = cc in omega arith)
-opened_count p (Text k x t) h n e c = absurd (let z : ◌≡◌ {A = ℕ} 0 1 = cc in omega arith)
+opened_count p Nothing h n e c = absurd cc
+opened_count p (Logic b) h n e c = absurd cc
+opened_count p (Char x) h n e c = absurd cc
+opened_count p (Integer x) h n e c = absurd cc
+opened_count p (Float f) h n e c = absurd cc
+opened_count p (Text k x t) h n e c = absurd cc
 opened_count p (Open x k) h n e c = c
-opened_count p (Share s t) h n e c = absurd (let z : ◌≡◌ {A = ℕ} 0 1 = cc in omega arith)
+opened_count p (Share s t) h n e c = absurd cc
 
-pub kept_counts : (s : Store) (i : ℕ) (h : Holder) → Kept s → i < length (items s.cells) → begun_at (values (standing s)) i ≡ Some (open' h) → count_in (cell_at (items s.cells) i).sort ≡ length (inner_names (values (standing s)) (At i))
-kept_counts s i h k l e =
-    let b : in_use s ≡ build (standing s) = k.stands.built in
-    let c : AllCount (items s.cells) (values (standing s)) = subst (λ m. AllCount m.cells (values (standing s))) (sym b) (counts_build (memory_lent s) (standing s) k.stands.lawful) in
-    opened_count (items s.codepoints) (cell_at (items s.cells) i).sort h _ (sym (begun_entry (values (standing s)) i ∙ ap begun_in (read_at s i k l)) ∙ e) (c i l)
+pub counts : (s : Store) (i : ℕ) (h : Holder) → i < length (items s.cells) → begun_at (values (standing s)) i ≡ Some (open' h) → count_in (cell_at (items s.cells) i).sort ≡ length (inner_names (values (standing s)) (At i))
+counts s i h l e =
+    let b : in_use s ≡ build (standing s) = s.stands.built in
+    let c : AllCount (items s.cells) (values (standing s)) = subst (λ m. AllCount m.cells (values (standing s))) (sym b) (counts_build (memory_lent s) (standing s) s.stands.lawful) in
+    opened_count (items s.codepoints) (cell_at (items s.cells) i).sort h _ (sym (begun_entry (values (standing s)) i ∙ ap begun_in (read_at s i l)) ∙ e) (c i l)

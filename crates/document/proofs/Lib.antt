@@ -3,6 +3,5 @@ pub mod Checked
 pub mod Adding
 pub mod Undone
 pub mod Closing
-pub mod Propositions
 pub mod Reading
 pub mod Counting

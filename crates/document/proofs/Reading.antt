@@ -8,26 +8,26 @@ use Rattle.steps.specs.Steps.{Begun}
 use Rattle.steps.specs.Outline.{values, entry_at, begun_at}
 use Rattle.steps.specs.Items.{items}
 use Rattle.steps.specs.Build.{entry_of, cell_at, blank, part, begun_of, span_of, begun_with}
-use Rattle.document.specs.Standing.{in_use, standing, Kept}
+use Rattle.document.specs.Standing.{in_use, standing}
 use Rattle.steps.proofs.Told.{SortFine, CellFine}
 use Rattle.steps.proofs.Good.{each_at}
 use Rattle.steps.proofs.Entered.{entry_cell, entry_none, begun_entry, begun_in}
 use Rattle.document.proofs.Agreed.{value_count}
-use Rattle.document.proofs.Checked.{kept_agrees}
+use Rattle.document.proofs.Checked.{agrees}
 
-pub count_is : (s : Store) → Kept s → length (items s.cells) ≡ length (values (standing s))
-count_is s k = value_count (standing s) (in_use s) (kept_agrees s k)
+pub count_is : (s : Store) → length (items s.cells) ≡ length (values (standing s))
+count_is s = value_count (standing s) (in_use s) (agrees s)
 
-pub read_at : (s : Store) (i : ℕ) → Kept s → i < length (items s.cells) → entry_at (values (standing s)) i ≡ Some (entry_of (items s.codepoints) (items s.names) (cell_at (items s.cells) i))
-read_at s i k l =
-    ap (λ zs. entry_at zs i) (sym (kept_agrees s k).valued) ∙ entry_cell (items s.codepoints) (items s.names) (items s.cells) i l
+pub read_at : (s : Store) (i : ℕ) → i < length (items s.cells) → entry_at (values (standing s)) i ≡ Some (entry_of (items s.codepoints) (items s.names) (cell_at (items s.cells) i))
+read_at s i l =
+    ap (λ zs. entry_at zs i) (sym (agrees s).valued) ∙ entry_cell (items s.codepoints) (items s.names) (items s.cells) i l
 
-pub read_none : (s : Store) (i : ℕ) → Kept s → length (items s.cells) ≤ i → entry_at (values (standing s)) i ≡ None
-read_none s i k l = entry_none (values (standing s)) i (omega (arith, count_is s k))
+pub read_none : (s : Store) (i : ℕ) → length (items s.cells) ≤ i → entry_at (values (standing s)) i ≡ None
+read_none s i l = entry_none (values (standing s)) i (omega (arith, count_is s))
 
-pub fine_at : (s : Store) (i : ℕ) → Kept s → i < length (items s.cells) → CellFine (length (items s.codepoints)) (length (items s.names)) (length (items s.cells)) (cell_at (items s.cells) i)
-fine_at s i k l =
-    each_at (CellFine (length (items s.codepoints)) (length (items s.names)) (length (items s.cells))) (items s.cells) i blank l (kept_agrees s k).good.each
+pub fine_at : (s : Store) (i : ℕ) → i < length (items s.cells) → CellFine (length (items s.codepoints)) (length (items s.names)) (length (items s.cells)) (cell_at (items s.cells) i)
+fine_at s i l =
+    each_at (CellFine (length (items s.codepoints)) (length (items s.names)) (length (items s.cells))) (items s.cells) i blank l (agrees s).good.each
 
 begun_spanned : (p : List ℕ) (s : Sort) → begun_with s (part (span_of s) p) ≡ begun_of p s
 begun_spanned p Nothing = refl
@@ -50,15 +50,17 @@ span_fine P K (Open x n) h = omega arith
 span_fine P K (Share x t) h = omega arith
 
 -- the codepoints of a value are in use
-pub span_within : (s : Store) (i : ℕ) (c : Cell) → Kept s → i < length (items s.cells) → c ≡ cell_at (items s.cells) i → (span_of c.sort).start + (span_of c.sort).len ≤ length (items s.codepoints)
-span_within s i c k l e =
+pub span_within : (s : Store) (i : ℕ) (c : Cell) → i < length (items s.cells) → c ≡ cell_at (items s.cells) i → (span_of c.sort).start + (span_of c.sort).len ≤ length (items s.codepoints)
+span_within s i c l e =
     subst (λ d. (span_of d.sort).start + (span_of d.sort).len ≤ length (items s.codepoints)) (sym e)
-    (span_fine (length (items s.codepoints)) (length (items s.cells)) (cell_at (items s.cells) i).sort (fine_at s i k l).sorted)
+    (span_fine (length (items s.codepoints)) (length (items s.cells)) (cell_at (items s.cells) i).sort (fine_at s i l).sorted)
 
-pub begun_none : (s : Store) (i : ℕ) → Kept s → length (items s.cells) ≤ i → begun_at (values (standing s)) i ≡ None
-begun_none s i k l = begun_entry (values (standing s)) i ∙ ap begun_in (read_none s i k l)
+pub begun_none : (s : Store) (i : ℕ) → length (items s.cells) ≤ i → begun_at (values (standing s)) i ≡ None
+begun_none s i l = begun_entry (values (standing s)) i ∙ ap begun_in (read_none s i l)
 
-pub begun_read : (s : Store) (i : ℕ) (c : Cell) (b : Begun) (ps : List ℕ) → Kept s → i < length (items s.cells) → c ≡ cell_at (items s.cells) i → ps ≡ part (span_of c.sort) (items s.codepoints) → b ≡ begun_with c.sort ps → begun_at (values (standing s)) i ≡ Some b
-begun_read s i c b ps k l e spanned is =
-    begun_entry (values (standing s)) i ∙ ap begun_in (read_at s i k l) ∙ ap (λ d. Some (begun_of (items s.codepoints) d.sort)) (sym e)
-    ∙ ap Some (sym (begun_spanned (items s.codepoints) c.sort) ∙ ap (begun_with c.sort) (sym spanned) ∙ sym is)
+-- the value of a number, by its cell, name and codepoints
+pub read_entry : (s : Store) (i : ℕ) (c : Cell) (b : Begun) (name ps : List ℕ) → i < length (items s.cells) → c ≡ cell_at (items s.cells) i → name ≡ part c.name (items s.names) → ps ≡ part (span_of c.sort) (items s.codepoints) → b ≡ begun_with c.sort ps → entry_at (values (standing s)) i ≡ Some (record { label = record { new_line = c.new_line; name = name }; begun = b; holder = c.holder })
+read_entry s i c b name ps l e named spanned is =
+    read_at s i l ∙ ap (λ d. Some (entry_of (items s.codepoints) (items s.names) d)) (sym e)
+    ∙ ap (λ n. Some (record { label = record { new_line = c.new_line; name = n }; begun = begun_of (items s.codepoints) c.sort; holder = c.holder })) (sym named)
+    ∙ ap (λ x. Some (record { label = record { new_line = c.new_line; name = name }; begun = x; holder = c.holder })) (sym (begun_spanned (items s.codepoints) c.sort) ∙ ap (begun_with c.sort) (sym spanned) ∙ sym is)

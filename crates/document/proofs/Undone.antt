@@ -13,16 +13,16 @@ use Rattle.steps.specs.Adjust.{adjust}
 use Rattle.steps.specs.Steps.{Tag, none, logic, char, integer, float, text, Begun, put, open', share, Step, begin, close, Steps}
 use Rattle.steps.specs.Outline.{Opened, innermost, opened}
 use Rattle.steps.specs.Law.{Memory, codepoints_of, deepest, Lawful}
-use Rattle.steps.specs.Items.{Sound, Sized}
 use Rattle.steps.specs.Build.{Built, more, less, shut, unshut, more_in, less_in, adjust_at, sort_of, new_cell, inside, deeper, shallower, apply, build, steps, tell, last, holders, ups, cell_at, blank, empty, cut_at, Under}
-use Rattle.document.specs.Standing.{in_use, standing, memory_lent, Stands, Kept, Shrunk}
+use Rattle.document.specs.Standing.{standing, memory_lent}
+use Rattle.document.specs.Stands.{Stands}
 use Rattle.steps.proofs.Adjusted.{length_adjust}
 use Rattle.steps.proofs.Held.{holders_adjust, length_holders, holders_at, below_at}
 use Rattle.steps.proofs.Told.{SortFine, CellFine}
 use Rattle.steps.proofs.Good.{Good, last_push, last_adjust, is_at, some_first, each_at, start}
 use Rattle.document.proofs.Agreed.{Agrees, agrees_build, stands_build, open_at}
-use Rattle.document.proofs.Checked.{kept_agrees}
-use Rattle.document.proofs.Adding.{built, same_built, same_memory, keeps, passed}
+use Rattle.document.proofs.Checked.{agrees}
+use Rattle.document.proofs.Adding.{built, same_built, passed}
 
 abbrev pub undo_begin : Built → Built
 undo_begin m =
@@ -105,7 +105,7 @@ undone_begin m l b =
     (ap (λ c. shallower c.sort (apply (begin l b) m).depth) z ∙ shallower_deeper (sort_of (length m.points) b) m.depth)
 
 open_deep : (os : List Opened) (d : ℕ) → is_at (innermost os) ≡ true → d ≡ length os → d - 1 + 1 ≡ d
-open_deep [] d ok e = let z : ◌≡◌ {A = ℕ} 0 1 = cc in absurd (omega (arith, z))
+open_deep [] d ok e = absurd cc
 open_deep (o ∷ os) d ok e = omega arith
 
 undone_close : (e : Steps) (m : Built) → is_at m.innermost ≡ true → Agrees e m → undo_close (apply close m) ≡ m
@@ -218,8 +218,9 @@ reopened M m t c n from k l e z began opened pointed named climbed deep =
     let more : 0 < (last m.cells).closes = subst (λ d. 0 < d.closes) w z in
     subst (Undone M m) (sym same) (with_close M m (steps m) k refl (omega arith) more)
 
-pub shrunk : (s t : Store) → Kept s → Undone (memory_lent s) (in_use s) (in_use t) → Sound t.cells → Sound t.codepoints → Sound t.names → Sized s.cells t.cells → Sized s.codepoints t.codepoints → Sized s.names t.names → Shrunk s t
-shrunk s t k u x y z a b c = record { kept = keeps s t k x y z a b c u.stands; memory = same_memory s t a b c; step = u.step; told = u.told }
+-- the same memory is lent, and what is left stands in it
+pub stands_in : (M N : Memory) (m n : Built) → Undone M m n → N ≡ M → Stands N n
+stands_in M N m n u e = subst (λ x. Stands x n) (sym e) u.stands
 
 -- ---- the depth stays small
 
@@ -234,5 +235,5 @@ shallow M (begin t (open' h) ∷ e) l = let d = ltb-true (length (opened e)) dee
 shallow M (begin t (share s n) ∷ e) l = shallow M e l.0
 shallow M (close ∷ e) l = tail_short (opened e) deepest (shallow M e l.0)
 
-pub depth_small : (s : Store) → Kept s → s.depth ≤ deepest
-depth_small s k = let a = shallow (memory_lent s) (standing s) k.stands.lawful in omega (arith, (kept_agrees s k).depth_is)
+pub depth_small : (s : Store) → s.depth ≤ deepest
+depth_small s = let a = shallow (memory_lent s) (standing s) s.stands.lawful in omega (arith, (agrees s).depth_is)

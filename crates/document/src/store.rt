@@ -1,10 +1,13 @@
+ghost use Rattle.std.specs.Prelude.{◌≡◌};
+ghost use Rattle.steps.specs.Law.{limit, cells as of_cells, points as of_points, names as of_names};
+ghost use Rattle.document.specs.Stands.{lent_of, used_of, Stands, stands_prop};
+
 use steps::parts::{Cell, Node};
 use steps::pile::Pile;
 
 mod backs;
 mod cells;
 mod checks;
-mod counts;
 mod edits;
 mod reads;
 
@@ -25,4 +28,9 @@ pub struct Store<'a> {
     names: Pile<'a, u8>,
     innermost: Node,
     depth: u32,
+    pub ghost cells_bound: { cells.bound ≡ limit of_cells },
+    pub ghost points_bound: { codepoints.bound ≡ limit of_points },
+    pub ghost names_bound: { names.bound ≡ limit of_names },
+    // what is in use is what its steps build, and each of them was accepted in this memory
+    pub ghost stands: { Stands (lent_of cells codepoints names) (used_of cells codepoints names innermost depth) } by { stands_prop (lent_of cells codepoints names) (used_of cells codepoints names innermost depth) },
 }

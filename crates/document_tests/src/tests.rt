@@ -1,6 +1,4 @@
 // The boundaries of the law, and memory used again.
-ghost use Rattle.document.specs.Standing.{Kept};
-
 use document::store::*;
 use refusal::Reason;
 use std::process::Abort;
@@ -28,10 +26,7 @@ fn letter<'v>(codepoint: u32) -> Value<'v> {
     Value::Char(codepoint)
 }
 
-fn put(store: &mut Store<'_>, name: &[u8], value: Value<'_>) -> Result<u32, Reason>
-    requires { Kept store.old }
-    ensures { Kept store.new }
-{
+fn put(store: &mut Store<'_>, name: &[u8], value: Value<'_>) -> Result<u32, Reason> {
     let label = Label {
         new_line: false,
         name,
@@ -39,10 +34,7 @@ fn put(store: &mut Store<'_>, name: &[u8], value: Value<'_>) -> Result<u32, Reas
     store.put(label, value)
 }
 
-fn put_text(store: &mut Store<'_>, name: &[u8], codepoints: &[u32]) -> Result<u32, Reason>
-    requires { Kept store.old }
-    ensures { Kept store.new }
-{
+fn put_text(store: &mut Store<'_>, name: &[u8], codepoints: &[u32]) -> Result<u32, Reason> {
     let value = Value::Text {
         kind: TextKind::String,
         head: 0,
@@ -51,10 +43,7 @@ fn put_text(store: &mut Store<'_>, name: &[u8], codepoints: &[u32]) -> Result<u3
     put(store, name, value)
 }
 
-fn open(store: &mut Store<'_>, holder: Holder) -> Result<u32, Reason>
-    requires { Kept store.old }
-    ensures { Kept store.new }
-{
+fn open(store: &mut Store<'_>, holder: Holder) -> Result<u32, Reason> {
     let label = Label {
         new_line: false,
         name: b"",
@@ -62,10 +51,7 @@ fn open(store: &mut Store<'_>, holder: Holder) -> Result<u32, Reason>
     store.open(label, holder)
 }
 
-fn share(store: &mut Store<'_>, share: Share, target: Node) -> Result<u32, Reason>
-    requires { Kept store.old }
-    ensures { Kept store.new }
-{
+fn share(store: &mut Store<'_>, share: Share, target: Node) -> Result<u32, Reason> {
     let label = Label {
         new_line: true,
         name: b"",
@@ -81,9 +67,7 @@ fn refused(answer: Result<u32, Reason>, number: u32) -> bool {
 }
 
 // The deepest value has the depth 32.
-fn go_deep(rt: &impl Abort, store: &mut Store<'_>) -> Result<(), Fail>
-    requires { Kept store.old }
-{
+fn go_deep(rt: &impl Abort, store: &mut Store<'_>) -> Result<(), Fail> {
     for _ in 0..32 {
         assert!(rt; open(store, LIST).is_ok());
     }
@@ -109,9 +93,7 @@ fn depth(rt: HostRuntime) -> Result<(), Fail> {
 }
 
 // A name in an object has 1 to 255 bytes, and there is none elsewhere.
-fn try_names(rt: &impl Abort, store: &mut Store<'_>, long: &[u8; 256])
-    requires { Kept store.old }
-{
+fn try_names(rt: &impl Abort, store: &mut Store<'_>, long: &[u8; 256]) {
     assert!(rt; refused(put(store, b"a", nothing()), 18));
     assert!(rt; open(store, OBJECT).is_ok());
     assert!(rt; refused(put(store, long, nothing()), 18));
@@ -158,9 +140,7 @@ fn ranges(rt: HostRuntime) {
 }
 
 // Two cells, three codepoints and two name bytes are used to the last, and again after a take back.
-fn fill(rt: &impl Abort, store: &mut Store<'_>, points: &[u32; 4])
-    requires { Kept store.old }
-{
+fn fill(rt: &impl Abort, store: &mut Store<'_>, points: &[u32; 4]) {
     assert!(rt; open(store, OBJECT).is_ok());
     assert!(rt; refused(put_text(store, b"ab", points), 14));
     assert!(rt; refused(put_text(store, b"abc", &points[1..]), 14));
@@ -184,9 +164,7 @@ fn memory(rt: HostRuntime) {
 }
 
 // Of 16,385 cells 16,384 are used.
-fn fill_cells(rt: &impl Abort, store: &mut Store<'_>) -> Result<(), Fail>
-    requires { Kept store.old }
-{
+fn fill_cells(rt: &impl Abort, store: &mut Store<'_>) -> Result<(), Fail> {
     for _ in 0..16_384 {
         assert!(rt; put(store, b"", nothing()).is_ok());
     }
@@ -208,10 +186,7 @@ fn limit(rt: HostRuntime) -> Result<(), Fail> {
 }
 
 // A share's target is a value of its family that is no share, and may still be open.
-fn try_shares(rt: &impl Abort, store: &mut Store<'_>)
-    requires { Kept store.old }
-    ensures { Kept store.new }
-{
+fn try_shares(rt: &impl Abort, store: &mut Store<'_>) {
     let list = Share::List {
         kind: ListKind::Paren,
         head: 1,
@@ -227,9 +202,7 @@ fn try_shares(rt: &impl Abort, store: &mut Store<'_>)
 }
 
 // What was begun and closed is taken back, step by step.
-fn take_all_back(rt: &impl Abort, store: &mut Store<'_>) -> Result<(), Fail>
-    requires { Kept store.old }
-{
+fn take_all_back(rt: &impl Abort, store: &mut Store<'_>) -> Result<(), Fail> {
     assert!(rt; store.close().is_ok());
     assert!(rt; put_text(store, b"", &[65, 66]).is_ok());
     for _ in 0..4 {

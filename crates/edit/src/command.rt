@@ -1,9 +1,11 @@
 // Commands: what a line asks for.
 use crate::words;
+use crate::words::Unread;
 use std::alloc::{AllocError, Global};
+use steps::limits::{CELLS, CODEPOINTS, NAME_BYTES};
 use steps::parts::{Holder, Share, TextKind, Value};
 
-// What a put holds.
+// What a put holds: it owns its codepoints, which a `Value` only borrows.
 #[derive(Drop)]
 pub enum Content {
     Nothing,
@@ -18,9 +20,9 @@ pub enum Content {
     },
 }
 
-impl Content {
-    pub fn value(&self) -> Value<'_> {
-        match self {
+impl<'c> From<&'c Content> for Value<'c> {
+    fn from(content: &'c Content) -> Value<'c> {
+        match content {
             Content::Nothing => Value::Nothing,
             Content::Logic(b) => Value::Logic(*b),
             Content::Char(c) => Value::Char(*c),
@@ -67,7 +69,7 @@ pub enum Command {
 }
 
 // The kinds of listings.
-#[derive(Clone, Copy)]
+#[derive(Clone, Copy, PartialEq, Eq, Debug)]
 pub enum Kind {
     Header,
     Table,
@@ -83,9 +85,9 @@ pub struct Sizes {
 
 // The most that a draft uses.
 pub const FULL: Sizes = Sizes {
-    cells: 16_384,
-    codepoints: 262_144,
-    names: 65_536,
+    cells: CELLS as usize,
+    codepoints: CODEPOINTS as usize,
+    names: NAME_BYTES as usize,
 };
 
 // The most of each memory that a script can ask for.
@@ -93,13 +95,6 @@ const MOST: u32 = 1_000_000;
 
 // The most bytes that a script can ask for in an output or a listing.
 const LARGEST_ROOM: u32 = 1_048_576;
-
-fn size(word: &str) -> Option<usize> {
-    match words::number(word) {
-        Some(n) if n <= MOST => Some(n as usize),
-        _ => None,
-    }
-}
 
 // The words of a line, which single spaces part.
 pub fn words_of<'t>(heap: Global, line: &'t str) -> Result<Vec<&'t str>, AllocError> {
@@ -110,165 +105,111 @@ pub fn words_of<'t>(heap: Global, line: &'t str) -> Result<Vec<&'t str>, AllocEr
 pub fn read_memory(words: &[&str]) -> Option<Sizes> {
     match words {
         [verb, cells, codepoints, names] if *verb == "memory" => Some(Sizes {
-            cells: size(cells)?,
-            codepoints: size(codepoints)?,
-            names: size(names)?,
+            cells: words::number_to(MOST, cells).ok()?,
+            codepoints: words::number_to(MOST, codepoints).ok()?,
+            names: words::number_to(MOST, names).ok()?,
         }),
         _ => None,
     }
 }
 
-// The edit that a line asks for, if it is one.
-pub fn read_command(heap: Global, words: &[&str]) -> Result<Option<Command>, AllocError> {
+// The call that a line asks for.
+pub fn read_command(heap: Global, words: &[&str]) -> Result<Command, Unread> {
     match words {
-        [verb] if *verb == "close" => Ok(Some(Command::Close)),
-        [verb] if *verb == "take-back" => Ok(Some(Command::TakeBack)),
-        [verb, bytes] if *verb == "load" => read_load(heap, bytes),
-        [verb, room] if *verb == "save" => Ok(read_save(room)),
-        [verb, kind, room] if *verb == "print" => Ok(read_print(kind, room)),
-        [verb, mark, name, rest @ ..] => read_begin(heap, verb, mark, name, rest),
-        _ => Ok(None),
+        [verb] if *verb == "close" => Ok(Command::Close),
+        [verb] if *verb == "take-back" => Ok(Command::TakeBack),
+        [verb, bytes] if *verb == "load" => Ok(Command::Load(words::bytes(heap, bytes)?)),
+        [verb, room] if *verb == "save" => Ok(Command::Save {
+            room: words::number_to(LARGEST_ROOM, room)?,
+        }),
+        [verb, kind, room] if *verb == "print" => Ok(Command::Print {
+            kind: Kind::try_from(*kind)?,
+            room: words::number_to(LARGEST_ROOM, room)?,
+        }),
+        [verb, mark, name, rest @ ..] => Ok(Command::Begin {
+            new_line: words::mark(mark, "newline")?,
+            begun: read_begun(heap, verb, rest)?,
+            name: words::bytes(heap, name)?,
+        }),
+        _ => Err(Unread::Unknown),
     }
 }
 
-fn read_load(heap: Global, word: &str) -> Result<Option<Command>, AllocError> {
-    match words::bytes(heap, word)? {
-        Some(file) => Ok(Some(Command::Load(file))),
-        None => Ok(None),
-    }
-}
+impl TryFrom<&str> for Kind {
+    type Error = Unread;
 
-// The size of an output or a listing, in bytes.
-fn read_room(word: &str) -> Option<usize> {
-    match words::number(word) {
-        Some(n) if n <= LARGEST_ROOM => Some(n as usize),
-        _ => None,
-    }
-}
-
-fn read_save(room: &str) -> Option<Command> {
-    Some(Command::Save {
-        room: read_room(room)?,
-    })
-}
-
-fn read_print(kind: &str, room: &str) -> Option<Command> {
-    let kind = match kind {
-        "header" => Kind::Header,
-        "table" => Kind::Table,
-        _ => return None,
-    };
-    Some(Command::Print {
-        kind,
-        room: read_room(room)?,
-    })
-}
-
-fn read_begin(
-    heap: Global,
-    verb: &str,
-    mark: &str,
-    name: &str,
-    rest: &[&str],
-) -> Result<Option<Command>, AllocError> {
-    let Some(new_line) = words::mark(mark, "newline") else {
-        return Ok(None);
-    };
-    let Some(begun) = read_begun(heap, verb, rest)? else {
-        return Ok(None);
-    };
-    let Some(name) = words::bytes(heap, name)? else {
-        return Ok(None);
-    };
-    Ok(Some(Command::Begin {
-        new_line,
-        name,
-        begun,
-    }))
-}
-
-fn read_begun(heap: Global, verb: &str, rest: &[&str]) -> Result<Option<Begun>, AllocError> {
-    match verb {
-        "put" => read_value(heap, rest),
-        "open" => Ok(read_holder(rest)),
-        "share" => Ok(read_share(rest)),
-        _ => Ok(None),
-    }
-}
-
-fn read_value(heap: Global, words: &[&str]) -> Result<Option<Begun>, AllocError> {
-    match words {
-        [sort] if *sort == "none" => Ok(Some(Begun::Put(Content::Nothing))),
-        [sort, word] if words::text_kind(sort).is_none() => Ok(read_plain(sort, word)),
-        [sort, head, codepoints @ ..] => read_text(heap, sort, head, codepoints),
-        _ => Ok(None),
-    }
-}
-
-fn read_plain(sort: &str, word: &str) -> Option<Begun> {
-    match sort {
-        "logic" => Some(Begun::Put(Content::Logic(words::logic(word)?))),
-        "char" => Some(Begun::Put(Content::Char(words::number(word)?))),
-        "integer" => Some(Begun::Put(Content::Integer(words::integer(word)?))),
-        "float" => Some(Begun::Put(Content::Float(words::bits(word)?))),
-        _ => None,
-    }
-}
-
-fn read_text(
-    heap: Global,
-    sort: &str,
-    head: &str,
-    codepoints: &[&str],
-) -> Result<Option<Begun>, AllocError> {
-    let Some(kind) = words::text_kind(sort) else {
-        return Ok(None);
-    };
-    let Some(head) = words::number(head) else {
-        return Ok(None);
-    };
-    let Some(codepoints) = words::numbers(heap, codepoints)? else {
-        return Ok(None);
-    };
-    Ok(Some(Begun::Put(Content::Text {
-        kind,
-        head,
-        codepoints,
-    })))
-}
-
-fn read_holder(words: &[&str]) -> Option<Begun> {
-    match words {
-        [kind, head] => Some(Begun::Open(Holder::List {
-            kind: words::list_kind(kind)?,
-            head: words::number(head)?,
-        })),
-        [sort, owner, self_mark, class, on_set, arity] if *sort == "object" => {
-            Some(Begun::Open(Holder::Object {
-                owner: words::mark(owner, "owner")?,
-                self_mark: words::mark(self_mark, "self")?,
-                class: words::number(class)?,
-                on_set: words::number(on_set)?,
-                arity: words::number(arity)?,
-            }))
+    fn try_from(word: &str) -> Result<Kind, Unread> {
+        match word {
+            "header" => Ok(Kind::Header),
+            "table" => Ok(Kind::Table),
+            _ => Err(Unread::Unknown),
         }
-        _ => None,
     }
 }
 
-fn read_share(words: &[&str]) -> Option<Begun> {
+fn read_begun(heap: Global, verb: &str, rest: &[&str]) -> Result<Begun, Unread> {
+    match verb {
+        "put" => Ok(Begun::Put(read_value(heap, rest)?)),
+        "open" => Ok(Begun::Open(read_holder(rest)?)),
+        "share" => read_share(rest),
+        _ => Err(Unread::Unknown),
+    }
+}
+
+fn read_value(heap: Global, words: &[&str]) -> Result<Content, Unread> {
+    match words {
+        [sort] if *sort == "none" => Ok(Content::Nothing),
+        [sort, word] if words::text_kind(sort).is_none() => read_plain(sort, word),
+        [sort, head, codepoints @ ..] => Ok(Content::Text {
+            kind: words::text_kind(sort).ok_or(Unread::Unknown)?,
+            head: words::number(head)?,
+            codepoints: words::numbers(heap, codepoints)?,
+        }),
+        _ => Err(Unread::Unknown),
+    }
+}
+
+fn read_plain(sort: &str, word: &str) -> Result<Content, Unread> {
+    match sort {
+        "logic" => Ok(Content::Logic(words::logic(word)?)),
+        "char" => Ok(Content::Char(words::number(word)?)),
+        "integer" => Ok(Content::Integer(words::integer(word)?)),
+        "float" => Ok(Content::Float(words::bits(word)?)),
+        _ => Err(Unread::Unknown),
+    }
+}
+
+fn read_holder(words: &[&str]) -> Result<Holder, Unread> {
+    match words {
+        [kind, head] => Ok(Holder::List {
+            kind: words::list_kind(kind).ok_or(Unread::Unknown)?,
+            head: words::number(head)?,
+        }),
+        [sort, owner, self_mark, class, on_set, arity] if *sort == "object" => Ok(Holder::Object {
+            owner: words::mark(owner, "owner")?,
+            self_mark: words::mark(self_mark, "self")?,
+            class: words::number(class)?,
+            on_set: words::number(on_set)?,
+            arity: words::number(arity)?,
+        }),
+        _ => Err(Unread::Unknown),
+    }
+}
+
+fn read_share(words: &[&str]) -> Result<Begun, Unread> {
     let [sort, field, target] = words else {
-        return None;
+        return Err(Unread::Unknown);
     };
-    let target = words::number(target)?;
-    if *sort == "object" {
+    let share = if *sort == "object" {
         let owner = words::mark(field, "owner")?;
-        return Some(Begun::Share(Share::Object { owner }, target));
-    }
-    let head = words::number(field)?;
-    if let Some(kind) = words::text_kind(sort) {
-        return Some(Begun::Share(Share::Text { kind, head }, target));
-    }
-    let kind = words::list_kind(sort)?;
-    Some(Begun::Share(Share::List { kind, head }, target))
+        Share::Object { owner }
+    } else if let Some(kind) = words::text_kind(sort) {
+        let head = words::number(field)?;
+        Share::Text { kind, head }
+    } else {
+        let kind = words::list_kind(sort).ok_or(Unread::Unknown)?;
+        let head = words::number(field)?;
+        Share::List { kind, head }
+    };
+    Ok(Begun::Share(share, words::number(target)?))
 }

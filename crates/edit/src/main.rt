@@ -4,18 +4,20 @@
 use command::{Begun, Command, FULL, Kind, Sizes, read_command, read_memory, words_of};
 use document::store::Memories;
 use gillsieve::draft::Draft;
-use listing::lines::{HeaderListing, TableListing};
+use listing::forms::{Header, LineForm, Table};
+use listing::lines::Lines;
 use refusal::Refusal;
 use std::io;
 use std::io::Write;
 use steps::parts::{FREE, Label, Node};
+use words::Unread;
 
 mod command;
 mod words;
 
 fn begin(draft: &mut Draft<'_>, label: Label<'_>, begun: &Begun) -> Result<u32, Refusal> {
     match begun {
-        Begun::Put(content) => draft.put(label, content.value()),
+        Begun::Put(content) => draft.put(label, content.into()),
         Begun::Open(holder) => draft.open(label, *holder),
         Begun::Share(share, target) => draft.share(label, *share, Node::At(*target)),
     }
@@ -44,22 +46,25 @@ fn save(rt: &HostRuntime, draft: &Draft<'_>, room: usize) -> anyhow::Result<()> 
     Ok(())
 }
 
-// Prints into a fresh listing of this size: the answer, and the lines that the listing has then.
+// Prints into a fresh listing of this form: the answer, and the lines that the listing has then.
+fn print_lines<F: LineForm>(
+    rt: &HostRuntime,
+    draft: &Draft<'_>,
+    memory: &mut [u8],
+) -> anyhow::Result<()> {
+    let mut listing = Lines::<&mut [u8], F>::new(memory);
+    answer(rt, draft.print(&mut listing))?;
+    rt.stdout().write_all(listing.text())?;
+    Ok(())
+}
+
+// Prints into a listing of this kind and size.
 fn print(rt: &HostRuntime, draft: &Draft<'_>, kind: Kind, room: usize) -> anyhow::Result<()> {
     let mut memory = vec![in rt.alloc(); 0u8; room]?;
     match kind {
-        Kind::Header => {
-            let mut listing = HeaderListing::new(&mut memory);
-            answer(rt, draft.print(&mut listing))?;
-            rt.stdout().write_all(listing.text())?;
-        }
-        Kind::Table => {
-            let mut listing = TableListing::new(&mut memory);
-            answer(rt, draft.print(&mut listing))?;
-            rt.stdout().write_all(listing.text())?;
-        }
+        Kind::Header => print_lines::<Header>(rt, draft, &mut memory),
+        Kind::Table => print_lines::<Table>(rt, draft, &mut memory),
     }
-    Ok(())
 }
 
 // Makes the call, and prints its answer.
@@ -114,12 +119,12 @@ fn session(rt: &HostRuntime, lines: &[&str], start: usize, sizes: Sizes) -> anyh
             println!(rt; "accepted")?;
             continue;
         }
-        match read_command(rt.alloc(), words.as_slice())? {
-            Some(command) => perform(rt, &mut draft, &command)?,
-            None => {
-                let number = at.saturating_add(1);
-                println!(rt; "unknown command at line {number}")?;
+        match read_command(rt.alloc(), words.as_slice()) {
+            Ok(command) => perform(rt, &mut draft, &command)?,
+            Err(Unread::Unknown) => {
+                println!(rt; "unknown command at line {}", at.saturating_add(1))?;
             }
+            Err(Unread::Memory(failure)) => return Err(failure.into()),
         }
     }
     Ok(())

@@ -1,44 +1,91 @@
-// What the words of a command stand for. None: a word that stands for nothing.
-use std::alloc::{AllocError, Global};
+// What the words of a command stand for.
+use hex::{FromHex, FromHexError};
+use std::alloc::{AllocError, AllocFailed, Global};
+use std::num::ParseIntError;
 use steps::parts::{ListKind, TextKind};
 
-// A decimal number that fits 32 bits.
-pub fn number(word: &str) -> Option<u32> {
-    match word.as_bytes() {
-        [b'0'..=b'9', ..] => word.parse::<u32>().ok(),
-        _ => None,
+// Why a line is not read as a command.
+#[derive(Debug, Drop)]
+pub enum Unread {
+    // it is none
+    Unknown,
+    // the heap has too little left
+    Memory(AllocError),
+}
+
+impl From<AllocError> for Unread {
+    fn from(e: AllocError) -> Unread {
+        Unread::Memory(e)
     }
 }
 
+impl<T: Drop> From<AllocFailed<T>> for Unread {
+    fn from(e: AllocFailed<T>) -> Unread {
+        Unread::Memory(AllocError::from(e))
+    }
+}
+
+impl From<ParseIntError> for Unread {
+    fn from(_e: ParseIntError) -> Unread {
+        Unread::Unknown
+    }
+}
+
+impl From<FromHexError> for Unread {
+    fn from(e: FromHexError) -> Unread {
+        match e {
+            FromHexError::OutOfMemory => Unread::Memory(AllocError),
+            _ => Unread::Unknown,
+        }
+    }
+}
+
+// A decimal number that fits 32 bits.
+pub fn number(word: &str) -> Result<u32, Unread> {
+    if word.starts_with('+') {
+        return Err(Unread::Unknown);
+    }
+    Ok(word.parse::<u32>()?)
+}
+
+// A decimal number that is at most so large.
+pub fn number_to(most: u32, word: &str) -> Result<usize, Unread> {
+    let n = number(word)?;
+    if n > most {
+        return Err(Unread::Unknown);
+    }
+    Ok(n as usize)
+}
+
 // A decimal number, with a minus or not, that fits 32 bits.
-pub fn integer(word: &str) -> Option<i32> {
-    match word.as_bytes() {
-        [b'+', ..] => None,
-        _ => word.parse::<i32>().ok(),
+pub fn integer(word: &str) -> Result<i32, Unread> {
+    if word.starts_with('+') {
+        return Err(Unread::Unknown);
+    }
+    Ok(word.parse::<i32>()?)
+}
+
+// Which of two words it is.
+fn choice(word: &str, yes: &str, no: &str) -> Result<bool, Unread> {
+    if word == yes {
+        Ok(true)
+    } else if word == no {
+        Ok(false)
+    } else {
+        Err(Unread::Unknown)
     }
 }
 
 // A mark that is set by this word and left out by `-`.
-pub fn mark(word: &str, set: &str) -> Option<bool> {
-    if word == set {
-        Some(true)
-    } else if word == "-" {
-        Some(false)
-    } else {
-        None
-    }
+pub fn mark(word: &str, set: &str) -> Result<bool, Unread> {
+    choice(word, set, "-")
 }
 
-pub fn logic(word: &str) -> Option<bool> {
-    if word == "true" {
-        Some(true)
-    } else if word == "false" {
-        Some(false)
-    } else {
-        None
-    }
+pub fn logic(word: &str) -> Result<bool, Unread> {
+    choice(word, "true", "false")
 }
 
+// The words for kinds are this program's own, so they are not conversions of the kinds in `steps`.
 pub fn text_kind(word: &str) -> Option<TextKind> {
     match word {
         "string" => Some(TextKind::String),
@@ -60,63 +107,22 @@ pub fn list_kind(word: &str) -> Option<ListKind> {
     }
 }
 
-fn hex_digit(b: u8) -> Option<u8> {
-    match b {
-        b'0'..=b'9' => Some(b - b'0'),
-        b'a'..=b'f' => Some(b - b'a' + 10),
-        b'A'..=b'F' => Some(b - b'A' + 10),
-        _ => None,
-    }
-}
-
 // 64 bits as 16 hexadecimal digits.
-pub fn bits(word: &str) -> Option<u64> {
-    let digits = word.as_bytes();
-    if digits.len() != 16 {
-        return None;
-    }
-    let mut value = 0u64;
-    for d in digits {
-        value = (value << 4) | u64::from(hex_digit(*d)?);
-    }
-    Some(value)
+pub fn bits(word: &str) -> Result<u64, Unread> {
+    let bytes = <[u8; 8] as FromHex>::from_hex(word)?;
+    Ok(u64::from_be_bytes(bytes))
 }
 
 // Bytes as `x` and two hexadecimal digits for each, or `-` for none.
-pub fn bytes(heap: Global, word: &str) -> Result<Option<Vec<u8>>, AllocError> {
-    let mut out = Vec::new(heap);
-    let digits = match word.as_bytes() {
-        [b'-'] => return Ok(Some(out)),
-        [b'x', digits @ ..] => digits,
-        _ => return Ok(None),
-    };
-    if digits.len() % 2 != 0 {
-        return Ok(None);
-    }
-    for pair in digits.chunks(2) {
-        match pair_value(pair) {
-            Some(b) => out.push(b)?,
-            None => return Ok(None),
-        }
-    }
-    Ok(Some(out))
-}
-
-fn pair_value(pair: &[u8]) -> Option<u8> {
-    match pair {
-        [high, low] => Some(hex_digit(*high)? << 4 | hex_digit(*low)?),
-        _ => None,
+pub fn bytes(heap: Global, word: &str) -> Result<Vec<u8>, Unread> {
+    match word.as_bytes() {
+        [b'-'] => Ok(Vec::new(heap)),
+        [b'x', digits @ ..] => Ok(hex::decode(heap, digits)?),
+        _ => Err(Unread::Unknown),
     }
 }
 
 // Decimal numbers, each a word.
-pub fn numbers(heap: Global, words: &[&str]) -> Result<Option<Vec<u32>>, AllocError> {
-    let mut out = Vec::new(heap);
-    for word in words {
-        match number(word) {
-            Some(n) => out.push(n)?,
-            None => return Ok(None),
-        }
-    }
-    Ok(Some(out))
+pub fn numbers(heap: Global, words: &[&str]) -> Result<Vec<u32>, Unread> {
+    words.iter().map(|word| number(word)).try_collect(heap)
 }

@@ -1,14 +1,15 @@
 -- What the calls on a store say, as calls on a draft.
 use Rattle.std.proofs.Common.{◌≡◌, ℕ, List, [], ◌∷◌, length, Ok, Err, Result, sym, refl, ap, ◌∙◌, subst}
-use std.Logic.{∥∥₁_prop}
+use Rattle.std.specs.Result.{IsErrAnd}
+use Rattle.std.proofs.lemmas.Result.{err_from_is_err_and}
+use Rattle.refusal.specs.declared.Part.TheVariants.{Draft as DraftPart}
 use Rattle.refusal.specs.declared.Reason.{Reason}
 use Rattle.refusal.specs.declared.Refusal.{Refusal}
 use Rattle.refusal.specs.Numbers.{number}
-use Rattle.document.specs.declared.store.Store.{Store}
 use Rattle.steps.specs.Steps.{Tag, Begun, Step, begin, close, Steps}
 use Rattle.steps.specs.Outline.{values}
 use Rattle.steps.specs.Law.{Memory, refusal, Stepped}
-use Rattle.document.specs.Standing.{Kept, Took, TookBack}
+use Rattle.document.specs.Standing.{Took, TookBack}
 use Rattle.redbin.proofs.Meant.{gives_file_steps}
 use Rattle.save.specs.Saves.{Saved}
 use Rattle.load_file.specs.Files.{Loaded, Untouched as StoreUntouched}
@@ -16,11 +17,13 @@ use Rattle.gillsieve.specs.declared.draft.Draft.{Draft}
 use Rattle.gillsieve.specs.Drafts.{steps_of, memory_of}
 use Rattle.gillsieve.specs.Events.{began, closed, taken_back, loaded, saved, loaded_as, earlier, after, back_refusal, Answered, answered, Untouched, Did}
 
--- a draft is its store: what it keeps holds in one way
+-- a draft is its store
 same_draft : (d e : Draft) → e.store ≡ d.store → e ≡ d
-same_draft d e p = by e.store (sym p) e.kept where
-  by : (s : Store) → d.store ≡ s → (k : ∥ Kept s ∥₁) → record { store = s; kept = k } ≡ d
-  by s p = subst (λ s. (k : ∥ Kept s ∥₁) → ◌≡◌ {A = Draft} (record { store = s; kept = k }) d) p (λ k. λ i. record { store = d.store; kept = ∥∥₁_prop k d.kept i })
+same_draft d e p = ap (λ s. record { store = s }) p
+
+-- a refusal that goes on by `?` names the draft, and no place in it
+pub answered_err : {X : Type 0} (r : Result X Reason) (q : Result X Refusal) (why : Reason) → r ≡ Err why → IsErrAnd q (λ f. f ≡ record { reason = why; part = DraftPart; place = 0 }) → q ≡ answered r
+answered_err r q why e h = let f = err_from_is_err_and q h in f.1 ∙ ap Err f.2 ∙ sym (ap answered e)
 
 -- the answer of a step by the law
 answer_by : {X : Type 0} (m : Memory) (s : Step) (before «after» : Steps) (r : Result X Reason) (x : X) → Stepped m s before r x «after» → Answered (refusal m before s) x (answered r)

@@ -48,10 +48,10 @@ one_good xs l b (At n) e = one_pair (delays xs) (delay_in (At n) l.name b) e
 
 neither : (o p : Option ℕ) → or_else o p ≡ None → (o ≡ None) × (p ≡ None)
 neither None p e = (refl, e)
-neither (Some n) p e = let z : ◌≡◌ {A = ℕ} 0 1 = cc in absurd (omega (arith, z))
+neither (Some n) p e = absurd cc
 
 not_so : (b : Bool) (n : ℕ) → cond b (Some n) None ≡ None → b ≡ false
-not_so true n e = let z : ◌≡◌ {A = ℕ} 0 1 = cc in absurd (omega (arith, z))
+not_so true n e = absurd cc
 not_so false n e = refl
 
 delays_good : (xs : List Entry) → offender xs ≡ None → AllGood (delays xs)
@@ -64,9 +64,9 @@ delays_good (x ∷ xs) e =
 -- ---- what the listing took
 
 refused_good : (e : Reason) (b c : Bool) → b ≡ true → Some (number e) ≡ refusal b c → (number e ≡ 20) × (c ≡ false)
-refused_good e true true p q = let z : ◌≡◌ {A = ℕ} 0 1 = cc in absurd (omega (arith, z))
+refused_good e true true p q = absurd cc
 refused_good e true false p q = (cc, refl)
-refused_good e false c p q = let z : ◌≡◌ {A = ℕ} 0 1 = cc in absurd (omega (arith, z))
+refused_good e false c p q = absurd cc
 
 module _ {S : Type 0} (m : S → List Pair) (h : S → Pair → Bool) (l : S → Pair → S → Type 0) where
   all_mean : (ps : List Pair) (s t : S) → AddedAll m h l s ps t → m t ≡ m s ++ ps

@@ -9,7 +9,6 @@ use Rattle.refusal.specs.declared.Refusal.{Refusal}
 use Rattle.steps.specs.Steps.{Steps}
 use Rattle.steps.specs.Outline.{Opened, opened, values}
 use Rattle.steps.specs.Law.{Memory, Lawful, Closed, unless}
-use Rattle.document.proofs.Propositions.{kept_of}
 use Rattle.redbin.specs.Layout.{largest_file}
 use Rattle.redbin.specs.Canonical.{canonical}
 use Rattle.redbin.specs.Reading.{load}
@@ -55,7 +54,7 @@ right m c earlier b =
 lawful : (m : Memory) (c : Event) (earlier : List Event) → Before m c earlier → (k : Memory) × Lawful k (reckoned earlier)
 lawful m c earlier b =
     let d = b.draft in
-    (memory_of d, subst (Lawful (memory_of d)) (told m earlier d b.history).1 (kept_of d.store d.kept).stands.lawful)
+    (memory_of d, subst (Lawful (memory_of d)) (told m earlier d b.history).1 d.store.stands.lawful)
 
 -- ---- saves
 
@@ -65,7 +64,7 @@ none_open (o ∷ os) e = let z : ◌≡◌ {A = ℕ} 0 1 = grind (arith, nat_tes
 
 passed : (b : Bool) (why : Reason) (next : Option Reason) → unless b why next ≡ None → (b ≡ true) × (next ≡ None)
 passed true why next e = (refl, e)
-passed false why next e = let z : ◌≡◌ {A = ℕ} 0 1 = cc in absurd (omega (arith, z))
+passed false why next e = absurd cc
 
 both : (a b : Bool) → a && b ≡ true → (a ≡ true) × (b ≡ true)
 both true true e = (refl, refl)
@@ -126,7 +125,7 @@ taken_in n e before file r w f z fits q =
 
 printed_all : (o : Option Refusal) (ps before after' : List Pair) → Printed o ps before after' (Ok tt) → after' ≡ before ++ ps
 printed_all None ps before after' p = p
-printed_all (Some why) ps before after' p = let q = p.0 in let z : ◌≡◌ {A = ℕ} 0 1 = cc in absurd (omega (arith, z))
+printed_all (Some why) ps before after' p = let q = p.0 in absurd cc
 
 -- ---- two histories
 

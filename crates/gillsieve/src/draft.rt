@@ -1,5 +1,3 @@
-ghost use Rattle.document.specs.Standing.{Kept};
-
 use document::store::Store;
 
 mod edits;
@@ -11,5 +9,4 @@ mod saves;
 #[derive(Drop)]
 pub struct Draft<'a> {
     store: Store<'a>,
-    ghost kept: { ∥ Kept store ∥₁ },
 }

@@ -1,10 +1,10 @@
 -- What listings mean after pairs were added.
-use Rattle.std.proofs.Common.{◌≡◌, ℕ, ◌+◌, ◌<◌, ◌≤◌, Bool, List, [], ◌∷◌, ◌++◌, map, length, get_or, take, pos, IfOk, Some, Ok, Err, Result, sym, refl, ap, ◌∙◌, append_assoc}
+use Rattle.std.proofs.Common.{◌≡◌, ℕ, ◌+◌, ◌<◌, ◌≤◌, Bool, List, [], ◌∷◌, ◌++◌, map, length, get_or, take, pos, Some, Err, sym, refl, ap, ◌∙◌, append_assoc}
 use Rattle.std.proofs.lemmas.List.{append-nil, take_more, take_all, get_or-map, length-map}
 use Rattle.refusal.specs.declared.Reason.{Reason}
 use Rattle.refusal.specs.Numbers.{number}
 use Rattle.listing.specs.Pairs.{Pair, pair, good}
-use Rattle.listing.specs.Listings.{refusal, Added, AddedAll, Gave, Fresh, BothMean, Agree}
+use Rattle.listing.specs.Listings.{refusal, Added, AddedAll, Gave, Agree}
 
 module _ {S : Type 0} (m : S → List Pair) (h : S → Pair → Bool) (l : S → Pair → S → Type 0) where
   all_more : (ps : List Pair) (s t u : S) (p : Pair) → AddedAll m h l s ps t → Added m h l t p u → AddedAll m h l s (ps ++ p ∷ []) u
@@ -35,8 +35,3 @@ pub agree : {S T : Type 0} (m : S → List Pair) (h : S → Pair → Bool) (l : 
 agree m h l m' h' l' a b a' b' ps fa fa' g g' =
     let e = all_mean m h l ps a b g ∙ ap (λ x. x ++ ps) fa in
     (e ∙ sym (all_mean m' h' l' ps a' b' g' ∙ ap (λ x. x ++ ps) fa'), e)
-
--- the second of two listings may still have refused
-pub agree_made : {S T X : Type 0} (m : S → List Pair) (h : S → Pair → Bool) (l : S → Pair → S → Type 0) (m' : T → List Pair) (h' : T → Pair → Bool) (l' : T → Pair → T → Type 0) → Agree m h l m' h' l' → (a b : S) (a' b' : T) (ps : List Pair) (r : Result X Reason) → Fresh m a → Fresh m' a' → AddedAll m h l a ps b → Gave m' h' l' a' ps b' r → IfOk r (λ _. BothMean (m b) (m' b') ps)
-agree_made m h l m' h' l' k a b a' b' ps (Ok x) fa fa' g g' = k a b a' b' ps fa fa' g g'
-agree_made m h l m' h' l' k a b a' b' ps (Err e) fa fa' g g' = tt

@@ -1,10 +1,14 @@
 -- A reader takes from a line the pair that it was written for, and from no line a bad pair.
-use Rattle.std.proofs.Common.{◌≡◌, ℕ, ◌+◌, ◌^◌, ◌<◌, ◌≤◌, Bool, true, false, not, eqb, leb, ◌⊎◌, List, [], ◌∷◌, ◌++◌, length, get_or, ℤ, pos, negsuc, Some, None, decimal, Option, sym, refl, ap, ◌∙◌, inl, inr, ⊎_elim, append_assoc, arith, length-append, rules}
+use Rattle.std.proofs.Common.{◌≡◌, ℕ, ◌^◌, ◌<◌, Bool, true, false, not, eqb, leb, ◌⊎◌, List, [], ◌∷◌, ◌++◌, length, get_or, ℤ, pos, negsuc, Some, None, decimal, Option, sym, refl, ap, ◌∙◌, inl, inr, ⊎_elim, append_assoc, arith, rules}
 use Rattle.std.proofs.lemmas.Fmt.{decimal_nonempty, first_decimal, digits_decimal, digits_value-decimal, decimal_digit}
 use Rattle.std.proofs.lemmas.Str.Parse.{IsNumeralModel, numerals_by_fold}
 use Rattle.std.proofs.lemmas.List.{append-nil}
+use Rattle.std.proofs.lemmas.List.Folds.{list_all-append}
 use Rattle.std.proofs.lemmas.Bool.{eq-eqb, ne_eqb, and_parts, leb-true, both_ways}
-use Rattle.listing.specs.Pairs.{Pair, good, good_name, good_delay, name_byte, digit, every}
+use Rattle.std.specs.Char.{is_ascii_digit}
+use Rattle.std.specs.List.{list_all}
+use Rattle.listing.specs.Pairs.{Pair, good, good_delay, name_byte}
+use Rattle.listing.specs.Sizes.{parts}
 use Rattle.listing.specs.Forms.{Form, Sound, Lacks, newline, delay_text, line, ◌>>=◌, same, after, run, past, canonical, number_on, read_delay, read_line, read_on, read}
 
 pub is_true : (b : Bool) → (b ≡ true) ⊎ (b ≡ false)
@@ -14,7 +18,7 @@ is_true false = inr refl
 -- ---- optional results
 
 pub bind_some : {A B : Type 0} (m : Option A) (k : A → Option B) (b : B) → (m >>= k) ≡ Some b → (a : A) × (m ≡ Some a) × (k a ≡ Some b)
-bind_some None k b e = absurd (let z : ◌≡◌ {A = ℕ} 0 1 = cc in omega arith)
+bind_some None k b e = absurd cc
 bind_some (Some a) k b e = (a, refl, e)
 
 bind_self : {X : Type 0} (m : Option (List X)) → m ≡ (m >>= λ xs. Some ([] ++ xs))
@@ -30,7 +34,7 @@ bind_cons (Some zs) x ys = refl
 module _ (f : Form) where
   pub read_apart : (before bs rest : List ℕ) (ps : List Pair) → read_on f before bs ≡ Some ps → read_on f before (bs ++ rest) ≡ (read_on f [] rest >>= λ qs. Some (ps ++ qs))
   read_apart [] [] rest ps e = let h : [] ≡ ps = cc in rw (← h) (bind_self (read_on f [] rest))
-  read_apart (b ∷ before) [] rest ps e = absurd (let z : ◌≡◌ {A = ℕ} 0 1 = cc in omega arith)
+  read_apart (b ∷ before) [] rest ps e = absurd cc
   read_apart before (b ∷ bs) rest ps e =
       ⊎_elim
       (λ t.
@@ -45,7 +49,7 @@ module _ (f : Form) where
   read_one : (before xs : List ℕ) (p : Pair) → Lacks newline xs → read_line f (before ++ xs) ≡ Some p → read_on f before (xs ++ newline ∷ []) ≡ Some (p ∷ [])
   read_one before [] p n e = let h : read_line f before ≡ Some p = rw append-nil at e in rw h
   read_one before (x ∷ xs) p n e =
-      let q = and_parts (not (eqb x newline)) (every (λ b. not (eqb b newline)) xs) n in
+      let q = and_parts (not (eqb x newline)) (list_all (λ b. not (eqb b newline)) xs) n in
       let t : eqb x newline ≡ false = search (rules, q.0) in
       rw t (read_one (before ++ x ∷ []) xs p q.1 (rw append_assoc e))
 
@@ -60,20 +64,20 @@ same_own [] = refl
 same_own (x ∷ xs) = rw (eq-eqb x x refl) (same_own xs)
 
 module _ (is : ℕ → Bool) where
-  run_own : (d : ℕ) (xs ys : List ℕ) → every is xs ≡ true → is (get_or ys 0 d) ≡ false → run is (xs ++ ys) ≡ xs
+  run_own : (d : ℕ) (xs ys : List ℕ) → list_all is xs ≡ true → is (get_or ys 0 d) ≡ false → run is (xs ++ ys) ≡ xs
   run_own d [] [] e h = refl
   run_own d [] (y ∷ ys) e h = rw h
-  run_own d (x ∷ xs) ys e h = let q = and_parts (is x) (every is xs) e in rw q.0 (ap (λ zs. x ∷ zs) (run_own d xs ys q.1 h))
+  run_own d (x ∷ xs) ys e h = let q = and_parts (is x) (list_all is xs) e in rw q.0 (ap (λ zs. x ∷ zs) (run_own d xs ys q.1 h))
 
-  past_own : (d : ℕ) (xs ys : List ℕ) → every is xs ≡ true → is (get_or ys 0 d) ≡ false → past is (xs ++ ys) ≡ ys
+  past_own : (d : ℕ) (xs ys : List ℕ) → list_all is xs ≡ true → is (get_or ys 0 d) ≡ false → past is (xs ++ ys) ≡ ys
   past_own d [] [] e h = refl
   past_own d [] (y ∷ ys) e h = rw h
-  past_own d (x ∷ xs) ys e h = let q = and_parts (is x) (every is xs) e in rw q.0 (past_own d xs ys q.1 h)
+  past_own d (x ∷ xs) ys e h = let q = and_parts (is x) (list_all is xs) e in rw q.0 (past_own d xs ys q.1 h)
 
 -- ---- delays
 
 -- the digits of this reader are those of the language's library
-pub own : IsNumeralModel (λ ds. every digit ds ≡ true) (number_on 0)
+pub own : IsNumeralModel (λ ds. list_all is_ascii_digit ds ≡ true) (number_on 0)
 own = numerals_by_fold _ (search rules) number_on (search rules)
 
 canonical_decimal : (n : ℕ) → n < 2 ^ 64 → canonical (decimal n) ≡ true
@@ -91,11 +95,11 @@ canonical_decimal n h = ⊎_elim
       by_first (c ∷ (d ∷ ds)) l k = rw (ne_eqb c 48 (λ e. omega arith))
 
 -- text that begins with a digit is not that of `never`
-not_never : (ds rest never : List ℕ) → 0 < length ds → every digit ds ≡ true → digit (get_or never 0 48) ≡ false → same (ds ++ rest) never ≡ false
+not_never : (ds rest never : List ℕ) → 0 < length ds → list_all is_ascii_digit ds ≡ true → is_ascii_digit (get_or never 0 48) ≡ false → same (ds ++ rest) never ≡ false
 not_never [] rest never l e h = absurd (omega arith)
 not_never (d ∷ ds) rest [] l e h = refl
 not_never (d ∷ ds) rest (v ∷ vs) l e h =
-    let k : eqb d v ≡ false = ne_eqb d v (λ q. both_ways (digit v) h (ap digit (sym q) ∙ (and_parts (digit d) (every digit ds) e).0)) in
+    let k : eqb d v ≡ false = ne_eqb d v (λ q. both_ways (is_ascii_digit v) h (ap is_ascii_digit (sym q) ∙ (and_parts (is_ascii_digit d) (list_all is_ascii_digit ds) e).0)) in
     rw k
 
 module _ (f : Form) (s : Sound f) where
@@ -103,36 +107,20 @@ module _ (f : Form) (s : Sound f) where
   read_delay_text (pos n) h =
       let b : n < 2 ^ 64 = omega (arith, leb-true n 3600000 h) in
       let ds = digits_decimal own n b in
-      rw (not_never (decimal n) f.unit f.never (decimal_nonempty n b) ds s.never_apart, run_own digit 0 (decimal n) f.unit ds s.unit_apart, past_own digit 0 (decimal n) f.unit ds s.unit_apart, canonical_decimal n b, same_own f.unit, digits_value-decimal own n b)
+      rw (not_never (decimal n) f.unit f.never (decimal_nonempty n b) ds s.never_apart, run_own is_ascii_digit 0 (decimal n) f.unit ds s.unit_apart, past_own is_ascii_digit 0 (decimal n) f.unit ds s.unit_apart, canonical_decimal n b, same_own f.unit, digits_value-decimal own n b)
   read_delay_text (negsuc n) h =
       let e : 0 ≡ n = omega (arith, leb-true n 0 (and_parts (leb n 0) true h).0) in
       rw (same_own f.never) (ap (λ m. Some (negsuc m)) e)
 
 -- ---- lines
 
-pub length_line : (f : Form) (p : Pair) → length (line f p) ≡ length f.head + length p.name + 2 + length (delay_text f p.delay)
-length_line f p = simp length-append (omega arith)
-
--- what is known of a good pair
-pub record Parts (p : Pair) : Type 0 where
-  pub short : length p.name ≤ 63
-  pub plain : every name_byte p.name ≡ true
-  pub timed : good_delay p.delay ≡ true
-
-pub parts : (p : Pair) → good p ≡ true → Parts p
-parts p g =
-    let a = and_parts (good_name p.name) (good_delay p.delay) g in
-    let b = and_parts _ _ a.0 in
-    record { short = leb-true _ _ (and_parts _ _ b.0).1; plain = (and_parts _ _ b.1).1; timed = a.1 }
-
 -- bytes of which each passes a test pass a weaker one
-every_weaker : (is' is : ℕ → Bool) → ((c : ℕ) → is' c ≡ true → is c ≡ true) → (cs : List ℕ) → every is' cs ≡ true → every is cs ≡ true
+every_weaker : (is' is : ℕ → Bool) → ((c : ℕ) → is' c ≡ true → is c ≡ true) → (cs : List ℕ) → list_all is' cs ≡ true → list_all is cs ≡ true
 every_weaker is' is w [] e = refl
-every_weaker is' is w (c ∷ cs) e = let q = and_parts (is' c) (every is' cs) e in rw (w c q.0) (every_weaker is' is w cs q.1)
+every_weaker is' is w (c ∷ cs) e = let q = and_parts (is' c) (list_all is' cs) e in rw (w c q.0) (every_weaker is' is w cs q.1)
 
-every_append : (is : ℕ → Bool) (xs ys : List ℕ) → every is xs ≡ true → every is ys ≡ true → every is (xs ++ ys) ≡ true
-every_append is [] ys e h = h
-every_append is (x ∷ xs) ys e h = let q = and_parts (is x) (every is xs) e in rw q.0 (every_append is xs ys q.1 h)
+every_append : (is : ℕ → Bool) (xs ys : List ℕ) → list_all is xs ≡ true → list_all is ys ≡ true → list_all is (xs ++ ys) ≡ true
+every_append is xs ys e h = rw (list_all-append, e) h
 
 -- a newline is no name byte
 clear_byte : (is : ℕ → Bool) → is newline ≡ false → (c : ℕ) → is c ≡ true → not (eqb c newline) ≡ true
@@ -141,7 +129,7 @@ clear_byte is h c e = let k : eqb c newline ≡ false = ne_eqb c newline (λ q. 
 clear_delay : (f : Form) → Sound f → (z : ℤ) → good_delay z ≡ true → Lacks newline (delay_text f z)
 clear_delay f s (pos n) h =
     let b : n < 2 ^ 64 = omega (arith, leb-true n 3600000 h) in
-    every_append _ (decimal n) f.unit (every_weaker digit _ (clear_byte digit refl) (decimal n) (digits_decimal own n b)) s.unit_clear
+    every_append _ (decimal n) f.unit (every_weaker is_ascii_digit _ (clear_byte is_ascii_digit refl) (decimal n) (digits_decimal own n b)) s.unit_clear
 clear_delay f s (negsuc n) h = s.never_clear
 
 module _ (f : Form) (s : Sound f) (p : Pair) (g : good p ≡ true) where

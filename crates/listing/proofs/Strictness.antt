@@ -1,20 +1,21 @@
 -- What is read is good, and the bytes that it is read from are the lines of what is read.
 use Rattle.std.proofs.Common.{◌≡◌, ℕ, ◌<◌, Bool, true, false, cond, not, ◌&&◌, eqb, List, [], ◌∷◌, ◌++◌, length, get_or, ℤ, pos, negsuc, Some, None, decimal, Option, sym, refl, ap, ◌∙◌, subst, ⊎_elim, append_assoc, arith}
-use Rattle.std.specs.List.{AllByRecursion}
+use Rattle.std.specs.List.{AllByRecursion, list_all}
 use Rattle.std.proofs.lemmas.Fmt.{decimal-digits_value}
 use Rattle.std.proofs.lemmas.Bool.{eqb-true, eq-eqb, and_parts, leb-true, both_ways}
-use Rattle.listing.specs.Pairs.{Pair, pair, good, good_name, good_delay, name_byte, digit, every}
+use Rattle.std.specs.Char.{is_ascii_digit}
+use Rattle.listing.specs.Pairs.{Pair, pair, good, good_name, good_delay, name_byte}
 use Rattle.listing.specs.Forms.{Form, newline, delay_text, line, lines, ◌>>=◌, same, after, run, past, canonical, number_on, read_delay, if_good, read_line, read_on, read}
 use Rattle.listing.proofs.Readings.{is_true, bind_some, own}
 
 -- from a result that is there under a test
 if_some : {X : Type 0} (b : Bool) (m : Option X) (x : X) → cond b m None ≡ Some x → (b ≡ true) × (m ≡ Some x)
 if_some true m x e = (refl, e)
-if_some false m x e = absurd (let z : ◌≡◌ {A = ℕ} 0 1 = cc in omega arith)
+if_some false m x e = absurd cc
 
 after_front : (xs bs ys : List ℕ) → after xs bs ≡ Some ys → bs ≡ xs ++ ys
 after_front [] bs ys e = cc
-after_front (x ∷ xs) [] ys e = absurd (let z : ◌≡◌ {A = ℕ} 0 1 = cc in omega arith)
+after_front (x ∷ xs) [] ys e = absurd cc
 after_front (x ∷ xs) (b ∷ bs) ys e =
     let i = if_some (eqb x b) (after xs bs) ys e in
     let h : x ≡ b = eqb-true x b i.0 in
@@ -36,7 +37,7 @@ module _ (is : ℕ → Bool) where
   run_past [] = refl
   run_past (b ∷ bs) = ⊎_elim (λ t. rw t (ap (λ xs. b ∷ xs) (run_past bs))) (λ t. rw t) (is_true (is b))
 
-  run_every : (bs : List ℕ) → every is (run is bs) ≡ true
+  run_every : (bs : List ℕ) → list_all is (run is bs) ≡ true
   run_every [] = refl
   run_every (b ∷ bs) = ⊎_elim (λ t. rw t (rw t (run_every bs))) (λ t. rw t) (is_true (is b))
 
@@ -51,7 +52,7 @@ canonical_zero (d ∷ []) e z = refl
 canonical_zero (d ∷ (c ∷ ds)) e z = absurd (both_ways (not (eqb d 48)) (rw (eq-eqb d 48 z)) e)
 
 -- canonical digits are the decimal form of their number
-digits_decimal_form : (ds : List ℕ) → every digit ds ≡ true → canonical ds ≡ true → good_delay (pos (number_on 0 ds)) ≡ true → decimal (number_on 0 ds) ≡ ds
+digits_decimal_form : (ds : List ℕ) → list_all is_ascii_digit ds ≡ true → canonical ds ≡ true → good_delay (pos (number_on 0 ds)) ≡ true → decimal (number_on 0 ds) ≡ ds
 digits_decimal_form ds e c g = decimal-digits_value own ds e (canonical_some ds c) (canonical_zero ds c) (omega (arith, leb-true (number_on 0 ds) 3600000 g))
 
 module _ (f : Form) where
@@ -60,13 +61,13 @@ module _ (f : Form) where
       ⊎_elim
       (λ t. let h : negsuc 0 ≡ z = some_same (rw t at e) in same_lists bs f.never t ∙ ap (delay_text f) h)
       (λ t.
-      let ds = run digit bs in
-      let i = if_some (canonical ds && same (past digit bs) f.unit) (Some (pos (number_on 0 ds))) z (rw t at e) in
-      let q = and_parts (canonical ds) (same (past digit bs) f.unit) i.0 in
+      let ds = run is_ascii_digit bs in
+      let i = if_some (canonical ds && same (past is_ascii_digit bs) f.unit) (Some (pos (number_on 0 ds))) z (rw t at e) in
+      let q = and_parts (canonical ds) (same (past is_ascii_digit bs) f.unit) i.0 in
       let h : pos (number_on 0 ds) ≡ z = some_same i.1 in
-      let u = same_lists (past digit bs) f.unit q.1 in
-      let d = digits_decimal_form ds (run_every digit bs) q.0 (ap good_delay h ∙ g) in
-      sym (run_past digit bs) ∙ ap (λ xs. ds ++ xs) u ∙ ap (λ xs. xs ++ f.unit) (sym d) ∙ ap (delay_text f) h)
+      let u = same_lists (past is_ascii_digit bs) f.unit q.1 in
+      let d = digits_decimal_form ds (run_every is_ascii_digit bs) q.0 (ap good_delay h ∙ g) in
+      sym (run_past is_ascii_digit bs) ∙ ap (λ xs. ds ++ xs) u ∙ ap (λ xs. xs ++ f.unit) (sym d) ∙ ap (delay_text f) h)
       (is_true (same bs f.never)) where
         some_same : {X : Type 0} {x y : X} → Some x ≡ Some y → x ≡ y
         some_same e = cc
@@ -87,7 +88,7 @@ module _ (f : Form) where
 
   lines_back : (before bs : List ℕ) (ps : List Pair) → read_on f before bs ≡ Some ps → (before ++ bs ≡ lines f ps) × AllByRecursion (λ p. good p ≡ true) ps
   lines_back [] [] ps e = let h : [] ≡ ps = cc in subst (λ qs. ([] ≡ lines f qs) × AllByRecursion (λ p. good p ≡ true) qs) h (refl, tt)
-  lines_back (b ∷ before) [] ps e = absurd (let z : ◌≡◌ {A = ℕ} 0 1 = cc in omega arith)
+  lines_back (b ∷ before) [] ps e = absurd cc
   lines_back before (b ∷ bs) ps e =
       ⊎_elim
       (λ t.

@@ -1,20 +1,13 @@
 -- What bytes hold after one write, and after one more.
-use Rattle.std.proofs.Common.{◌≡◌, ℕ, ◌+◌, ◌<◌, ◌≤◌, List, [], ◌∷◌, ◌++◌, length, take, drop, set, refl, ap, ◌∙◌, append_assoc, add-one, arith, length-append, rules}
-use borrow.Rule.Slice.PartMut.{put_mid}
-use Rattle.std.proofs.lemmas.List.{drop-drop, places, take_at, length-take-le, set_split, same_lists}
-use Rattle.listing.specs.Buffers.{written}
-
-pub written_putMid : (a k : ℕ) (xs ys zs : List ℕ) → ys ≡ zs → k ≡ length zs → put_mid a k xs ys ≡ written xs a zs
-written_putMid a k xs ys zs e h = rw (e, h, drop-drop)
+use Rattle.std.proofs.Common.{◌≡◌, ℕ, ◌+◌, ◌≤◌, List, ◌++◌, length, take, drop, ap, ◌∙◌, append_assoc, arith, length-append, rules}
+use Rattle.std.proofs.lemmas.List.{places, take_at, length-take-le, same_lists}
+use Rattle.listing.specs.Memory.{written}
 
 pub length_written : (xs : List ℕ) (a : ℕ) (ys : List ℕ) → a + length ys ≤ length xs → length (written xs a ys) ≡ length xs
 length_written xs a ys h = search (rules, places)
 
 pub written_more : (xs : List ℕ) (a b : ℕ) (ys zs : List ℕ) → b ≡ a + length ys → b ≤ length xs → written (written xs a ys) b zs ≡ written xs a (ys ++ zs)
 written_more xs a b ys zs e h = same_lists _ _ (search (rules, places)) (λ k d l. grind (arith, places))
-
-pub written_one : (xs : List ℕ) (a y : ℕ) → a < length xs → set xs a y ≡ written xs a (y ∷ [])
-written_one xs a y h = rw set_split (rw add-one refl)
 
 -- `o` is `xs` with `ys` written from `a` up to `b`
 abbrev pub Upto : List ℕ → ℕ → List ℕ → List ℕ → ℕ → Type 0
@@ -28,7 +21,7 @@ take_written xs a n ys e h =
     let k : length (take a xs ++ ys) ≡ n = rw length-append (omega (arith, length-take-le a xs (omega arith))) in
     rw (← append_assoc) (take_at (take a xs ++ ys) (drop (a + length ys) xs) n k)
 
--- after `ys`, which is also `zs`, is written from `a` up to `n`
-pub took : (xs o : List ℕ) (a n size : ℕ) (ys zs : List ℕ) → o ≡ written xs a ys → n ≡ a + size → size ≡ length ys → n ≤ length xs → ys ≡ zs → (take n o ≡ take a xs ++ zs) × (length o ≡ length xs)
-took xs o a n size ys zs e u s h l =
-    (ap (take n) e ∙ take_written xs a n ys (omega arith) h ∙ ap (λ y. take a xs ++ y) l, ap length e ∙ length_written xs a ys (omega arith))
+-- after `ys` is written from `a` up to `n`
+pub took : (xs o : List ℕ) (a n : ℕ) (ys : List ℕ) → o ≡ written xs a ys → n ≡ a + length ys → n ≤ length xs → (take n o ≡ take a xs ++ ys) × (length o ≡ length xs)
+took xs o a n ys e u h =
+    (ap (take n) e ∙ take_written xs a n ys u h, ap length e ∙ length_written xs a ys (omega arith))

@@ -1,6 +1,8 @@
 -- The lines that stand for pairs, and what a reader takes from them.
-use Rattle.std.specs.Prelude.{◌≡◌, ℕ, ◌+◌, ◌-◌, ◌*◌, ◌≤◌, Bool, true, false, cond, not, ◌&&◌, List, [], ◌∷◌, ◌++◌, length, ℤ, pos, negsuc, Some, None, codes, decimal, Option, ◌==◌, nat_eq, slice_index, slice_index_or}
-use Rattle.listing.specs.Pairs.{Pair, pair, good, digit, name_byte, every}
+use Rattle.std.specs.Prelude.{◌≡◌, ℕ, ◌+◌, ◌-◌, ◌*◌, ◌≤◌, Bool, true, false, cond, not, ◌&&◌, List, [], ◌∷◌, ◌++◌, length, max, ℤ, pos, negsuc, Some, None, codes, decimal, Option, ◌==◌, bytes_eq, nat_eq, slice_index, slice_index_or}
+use Rattle.std.specs.Char.{is_ascii_digit}
+use Rattle.std.specs.List.{list_all}
+use Rattle.listing.specs.Pairs.{Pair, pair, good, name_byte}
 
 infixl 10 ◌>>=◌
 -- what stands before the name, the byte between name and delay, the text of the delay -1, and what follows the digits of any other
@@ -32,6 +34,10 @@ abbrev pub lines : Form → List Pair → List ℕ
 lines f [] = []
 lines f (p ∷ ps) = line f p ++ lines f ps
 
+-- the bytes of the longest line of a good pair: a name of 63 bytes, and a delay of -1 or of seven digits
+abbrev pub longest_line : Form → ℕ
+longest_line f = length f.head + 65 + max (length f.never) (7 + length f.unit)
+
 -- ---- what is read: a pair only from a line that has the form from its first byte to its last
 
 -- go on with what was read, if anything was
@@ -40,10 +46,7 @@ abbrev pub ◌>>=◌ : {A B : Type 0} → Option A → (A → Option B) → Opti
 ◌>>=◌ (Some a) k = k a
 
 abbrev pub same : List ℕ → List ℕ → Bool
-same [] [] = true
-same [] (y ∷ ys) = false
-same (x ∷ xs) [] = false
-same (x ∷ xs) (y ∷ ys) = x == y && same xs ys
+same = bytes_eq
 
 -- what follows `front` in bytes that begin with it
 abbrev pub after : List ℕ → List ℕ → Option (List ℕ)
@@ -76,7 +79,7 @@ abbrev pub read_digits : Form → List ℕ → List ℕ → Option ℤ
 read_digits f ds rest = cond (canonical ds && same rest f.unit) (Some (pos (number_on 0 ds))) None
 
 abbrev pub read_delay : Form → List ℕ → Option ℤ
-read_delay f bs = cond (same bs f.never) (Some (negsuc 0)) (read_digits f (run digit bs) (past digit bs))
+read_delay f bs = cond (same bs f.never) (Some (negsuc 0)) (read_digits f (run is_ascii_digit bs) (past is_ascii_digit bs))
 
 abbrev pub if_good : Pair → Option Pair
 if_good p = cond (good p) (Some p) None
@@ -109,7 +112,7 @@ read f bs = read_on f [] bs
 -- ---- what a form has to keep apart
 
 abbrev pub Lacks : ℕ → List ℕ → Type 0
-Lacks c bs = every (λ b. not (b == c)) bs ≡ true
+Lacks c bs = list_all (λ b. not (b == c)) bs ≡ true
 
 -- a newline stands only at the end of a line, a name ends at the gap, `never` and the unit begin with no digit; and all parts are short
 pub record Sound (f : Form) : Type 0 where
@@ -118,6 +121,6 @@ pub record Sound (f : Form) : Type 0 where
   pub never_clear : Lacks newline f.never
   pub unit_clear : Lacks newline f.unit
   pub gap_apart : name_byte f.gap ≡ false
-  pub never_apart : digit (slice_index_or f.never 0 48) ≡ false
-  pub unit_apart : digit (slice_index f.unit 0) ≡ false
+  pub never_apart : is_ascii_digit (slice_index_or f.never 0 48) ≡ false
+  pub unit_apart : is_ascii_digit (slice_index f.unit 0) ≡ false
   pub short : length f.head + (length f.never + length f.unit) ≤ 100

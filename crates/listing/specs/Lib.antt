@@ -1,4 +1,5 @@
 pub mod Pairs
 pub mod Listings
 pub mod Forms
-pub mod Buffers
+pub mod Memory
+pub mod Sizes

@@ -1,5 +1,9 @@
 -- Pairs of a name and a delay, and which of them are good.
-use Rattle.std.specs.Prelude.{ℕ, Bool, true, not, ◌&&◌, ◌||◌, List, [], ◌∷◌, length, ℤ, pos, negsuc, ◌==◌, int_le, nat_le, slice_index}
+use Rattle.std.specs.Prelude.{ℕ, Bool, not, ◌&&◌, ◌||◌, List, length, ℤ, pos, negsuc, ◌==◌, int_le, slice_index}
+use Rattle.std.specs.Char.{is_ascii_digit, is_ascii_alphanumeric}
+use Rattle.std.specs.Int.{is_in_range}
+use Rattle.std.specs.List.{list_all}
+use Rattle.listing.specs.declared.pairs.Entry.{Entry}
 
 pub record Pair : Type 0 where
   pub name : List ℕ
@@ -8,24 +12,17 @@ pub record Pair : Type 0 where
 abbrev pub pair : List ℕ → ℤ → Pair
 pair n d = record { name = n; delay = d }
 
-abbrev pub within : ℕ → ℕ → ℕ → Bool
-within low high c = nat_le low c && nat_le c high
-
--- `0` to `9`
-abbrev pub digit : ℕ → Bool
-digit c = within 48 57 c
+-- the pair that an entry stands for
+abbrev pub pair_of : Entry → Pair
+pair_of e = pair e.name.now e.delay
 
 -- an ASCII letter, digit or underscore
 abbrev pub name_byte : ℕ → Bool
-name_byte c = (within 97 122 c || within 65 90 c) || (digit c || c == 95)
-
-abbrev pub every : (ℕ → Bool) → List ℕ → Bool
-every is [] = true
-every is (c ∷ cs) = is c && every is cs
+name_byte c = is_ascii_alphanumeric c || c == 95
 
 -- 1 to 63 such bytes, of which the first is no digit
 abbrev pub good_name : List ℕ → Bool
-good_name cs = within 1 63 (length cs) && (not (digit (slice_index cs 0)) && every name_byte cs)
+good_name cs = is_in_range 1 63 (length cs) && (not (is_ascii_digit (slice_index cs 0)) && list_all name_byte cs)
 
 -- from -1, never, to an hour in milliseconds
 abbrev pub good_delay : ℤ → Bool

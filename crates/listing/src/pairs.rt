@@ -1,5 +1,6 @@
 ghost use Rattle.std.specs.Prelude.{◌≡◌};
-ghost use Rattle.listing.specs.Pairs.{pair, good, good_name, good_delay, within, name_byte, digit as is_a_digit};
+ghost use Rattle.std.specs.List.{list_all};
+ghost use Rattle.listing.specs.Pairs.{pair_of, good, good_name, good_delay, name_byte};
 
 // A name and a delay in milliseconds, -1 for never.
 #[derive(Clone, Copy)]
@@ -8,49 +9,39 @@ pub struct Entry<'a> {
     pub delay: i32,
 }
 
-fn is_digit(c: u8) -> bool
-    ensures { result ≡ is_a_digit c }
-{
-    c >= b'0' && c <= b'9'
-}
-
+// An ASCII letter, digit or underscore.
 fn is_name_byte(c: u8) -> bool
     ensures { result ≡ name_byte c }
 {
-    c >= b'a' && c <= b'z' || c >= b'A' && c <= b'Z' || is_digit(c) || c == b'_'
+    c.is_ascii_alphanumeric() || c == b'_'
 }
 
-fn is_name_length(n: usize) -> bool
-    ensures { result ≡ within 1 63 n }
+fn are_name_bytes(bytes: &[u8]) -> bool
+    ensures { result ≡ list_all name_byte bytes.now }
 {
-    n >= 1 && n <= 63
+    bytes.iter().all(|c| is_name_byte(*c))
 }
 
 // From -1, never, to an hour.
 fn is_good_delay(delay: i32) -> bool
     ensures { result ≡ good_delay delay }
 {
-    delay >= -1 && delay <= 3_600_000
+    (-1..=3_600_000).contains(&delay)
 }
 
 // 1 to 63 ASCII letters, digits or underscores, and no digit first.
 pub fn is_good_name(name: &[u8]) -> bool
     ensures { result ≡ good_name name.now }
 {
-    if !is_name_length(name.len()) || is_digit(name[0]) {
-        return false;
+    match name {
+        [] | [b'0'..=b'9', ..] => false,
+        _ => name.len() <= 63 && are_name_bytes(name),
     }
-    for c in name {
-        if !is_name_byte(*c) {
-            return false;
-        }
-    }
-    true
 }
 
 // A good name, and a delay from -1 to an hour.
-pub fn is_good(name: &[u8], delay: i32) -> bool
-    ensures { result ≡ good (pair name.now delay) }
+pub fn is_good(entry: &Entry<'_>) -> bool
+    ensures { result ≡ good (pair_of entry.now) }
 {
-    is_good_name(name) && is_good_delay(delay)
+    is_good_name(entry.name) && is_good_delay(entry.delay)
 }

@@ -1,34 +1,57 @@
-ghost use Rattle.std.specs.Prelude.{◌≡◌, ◌+◌, ◌≤◌, length, decimal};
-ghost use Rattle.listing.specs.Buffers.{written};
+// The lines that are written.
+ghost use Rattle.std.specs.Prelude.{◌≡◌, ◌+◌, ◌≤◌, true, ◌++◌, length};
+ghost use Rattle.listing.specs.Pairs.{pair_of, good};
+ghost use Rattle.listing.specs.Forms.{line, delay_text};
+ghost use Rattle.listing.specs.Memory.{written};
 
-// Writes the bytes over what stands at `at`, and says where they end.
-pub(crate) fn put(out: &mut [u8], at: usize, bytes: &[u8]) -> usize
-    requires { at + length bytes.now ≤ length out.old }
-    ensures after { out.new ≡ written out.old at bytes.now }
-    ensures end { result ≡ at + length bytes.now }
-{
-    let end = at + bytes.len();
-    out[at..end].copy_from_slice(bytes);
-    end
-}
+use crate::forms::LineForm;
+use crate::memory::Memory;
+use crate::pairs::Entry;
+use itoa::Buffer;
 
-// How many decimal digits a number has.
-pub(crate) fn decimal_size(n: u32) -> usize
-    ensures size { result ≡ length (decimal n) }
-    ensures bound { result ≤ 10 }
+// The text of an entry's delay in two parts, of which the second is the unit. `digits` has room for the digits.
+fn delay_parts<'t, F: LineForm>(entry: &Entry<'_>, digits: &'t mut Buffer) -> (&'t [u8], &'t [u8])
+    ensures text { result.0.now ++ result.1.now ≡ delay_text F.form entry.now.delay }
+    ensures size { length result.0.now + length result.1.now ≡ length (delay_text F.form entry.now.delay) }
 {
-    if n < 10 { 1 } else { decimal_size(n / 10) + 1 }
-}
-
-// Writes a number in decimal digits, and says where they end.
-pub(crate) fn put_decimal(out: &mut [u8], at: usize, n: u32) -> usize
-    requires { at + length (decimal n) ≤ length out.old }
-    ensures after { out.new ≡ written out.old at (decimal n) }
-    ensures end { result ≡ at + length (decimal n) }
-{
-    if n < 10 {
-        return put(out, at, &[b'0' + n as u8]);
+    if entry.delay < 0 {
+        (F::never(), b"")
+    } else {
+        (
+            digits.format(entry.delay.unsigned_abs()).as_bytes(),
+            F::unit(),
+        )
     }
-    let last = put_decimal(out, at, n / 10);
-    put(out, last, &[b'0' + (n % 10) as u8])
+}
+
+// How many bytes the line of a good entry has.
+#[tactic(auto, using(crate::specs::Sizes::length_line, crate::specs::Sizes::line_short))]
+pub(crate) fn line_size<F: LineForm>(entry: &Entry<'_>) -> usize
+    requires { good (pair_of entry.now) ≡ true }
+    ensures { result ≡ length (line F.form (pair_of entry.now)) }
+{
+    let mut digits = Buffer::new();
+    let (time, unit) = delay_parts::<F>(entry, &mut digits);
+    F::head().len() + entry.name.len() + 1 + time.len() + unit.len() + 1
+}
+
+// Writes the line of an entry at `at`, and says where it ends.
+#[tactic(auto, using(crate::specs::Sizes::length_line))]
+pub(crate) fn put_line<M: Memory, F: LineForm>(
+    memory: &mut M,
+    at: usize,
+    entry: &Entry<'_>,
+) -> usize
+    requires { at + length (line F.form (pair_of entry.now)) ≤ length (M.stored memory.old) }
+    ensures after { M.stored memory.new ≡ written (M.stored memory.old) at (line F.form (pair_of entry.now)) }
+    ensures end { result ≡ at + length (line F.form (pair_of entry.now)) }
+{
+    let mut digits = Buffer::new();
+    let (time, unit) = delay_parts::<F>(entry, &mut digits);
+    let at = memory.put(at, F::head());
+    let at = memory.put(at, entry.name);
+    let at = memory.put(at, &[F::gap()]);
+    let at = memory.put(at, time);
+    let at = memory.put(at, unit);
+    memory.put(at, b"\n")
 }

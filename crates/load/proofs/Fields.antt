@@ -1,52 +1,46 @@
 -- What fields come to, by the place in the file.
-use Rattle.std.proofs.Common.{◌≡◌, ℕ, zero, suc, ◌+◌, ◌-◌, ◌*◌, ◌%◌, ◌<◌, ◌≤◌, true, false, eqb, ltb, List, [], ◌∷◌, length, get_or, take, drop, arith, length-drop, drop-drop}
-use native.Mathlib.Numerals.{unary_clauses}
+use Rattle.std.proofs.Common.{◌≡◌, ℕ, ◌+◌, ◌-◌, ◌*◌, ◌<◌, ◌≤◌, Bool, true, false, cond, ltb, List, [], ◌∷◌, Ok, Err, refl, ◌∙◌, length, get_or, take, drop, arith, length-drop}
+use Rattle.std.specs.Int.{w32, w64, from_le_bytes}
 use Rattle.std.proofs.lemmas.Bool.Decides.{nat_tests}
+use Rattle.refusal.specs.declared.Refusal.{Refusal}
 use Rattle.refusal.specs.declared.Part.{Part}
 use Rattle.refusal.specs.declared.Reason.{Reason}
-use Rattle.refusal.specs.declared.Reason.TheVariants.{Short, BadContent}
-use Rattle.refusal.specs.declared.Part.TheVariants.{Record}
-use Rattle.steps.specs.Steps.{Steps}
 use Rattle.redbin.specs.Bytes.{number}
-use Rattle.redbin.specs.Reading.{got, refused, because, after, enough, skip, below, on_boundary, Setting}
-use Rattle.load.specs.Ran.{state, piece}
+use Rattle.redbin.specs.Reading.{Reader as State, Reads, got, refused, because, after, enough, skip, below}
+use Rattle.load.specs.declared.reader.Reader.{Reader}
+use Rattle.load.specs.Ran.{Did, state, size_of, rest_of, piece}
 
--- the number that four bytes from a place on stand for
-abbrev pub four_at : List ℕ → ℕ → ℕ
-four_at file p = get_or file p 0 + get_or file (p + 1) 0 * 256 + get_or file (p + 2) 0 * 65536 + get_or file (p + 3) 0 * 16777216
-
-pub number_two : (file : List ℕ) (p : ℕ) → p + 2 ≤ length file → number (take 2 (drop p file)) ≡ get_or file (p + 1) 0 * 256 + get_or file p 0
+-- the number of the first four bytes, where those that are missing count as 0
+pub number_four : (bytes : List ℕ) → number (take 4 bytes) ≡ get_or bytes 0 0 + get_or bytes 1 0 * 256 + get_or bytes 2 0 * 65536 + get_or bytes 3 0 * 16777216
 unfolding number
-number_two (a ∷ b ∷ file) zero h = omega arith
-number_two (a ∷ []) zero h = absurd (omega arith)
-number_two [] p h = absurd (omega arith)
-number_two (a ∷ file) (suc p) h = simp unary_clauses (simp unary_clauses at (number_two file p (omega arith)))
+number_four [] = omega arith
+number_four (a ∷ []) = omega arith
+number_four (a ∷ b ∷ []) = omega arith
+number_four (a ∷ b ∷ c ∷ []) = omega arith
+number_four (a ∷ b ∷ c ∷ d ∷ bytes) = omega arith
 
-pub number_four : (file : List ℕ) (p : ℕ) → p + 4 ≤ length file → number (take 4 (drop p file)) ≡ four_at file p
+-- four bytes and eight bytes as an array
+pub le_four : (bytes : List ℕ) → length bytes ≡ 4 → from_le_bytes w32 bytes ≡ number bytes
 unfolding number
-number_four (a ∷ b ∷ c ∷ d ∷ file) zero h = omega arith
-number_four (a ∷ b ∷ c ∷ []) zero h = absurd (omega arith)
-number_four (a ∷ b ∷ []) zero h = absurd (omega arith)
-number_four (a ∷ []) zero h = absurd (omega arith)
-number_four [] p h = absurd (omega arith)
-number_four (a ∷ file) (suc p) h = simp unary_clauses (simp unary_clauses at (number_four file p (omega arith)))
+le_four (a ∷ b ∷ c ∷ d ∷ []) h = omega arith
+le_four [] h = absurd (omega arith)
+le_four (a ∷ []) h = absurd (omega arith)
+le_four (a ∷ b ∷ []) h = absurd (omega arith)
+le_four (a ∷ b ∷ c ∷ []) h = absurd (omega arith)
+le_four (a ∷ b ∷ c ∷ d ∷ e ∷ bytes) h = absurd (omega arith)
 
--- and the four bytes behind these
-abbrev pub next_four : List ℕ → ℕ → ℕ
-next_four file p = get_or file (p + 4) 0 + get_or file (p + 5) 0 * 256 + get_or file (p + 6) 0 * 65536 + get_or file (p + 7) 0 * 16777216
-
-pub number_eight : (file : List ℕ) (p : ℕ) → p + 8 ≤ length file → number (take 8 (drop p file)) ≡ next_four file p * 4294967296 + four_at file p
+pub le_eight : (bytes : List ℕ) → length bytes ≡ 8 → from_le_bytes w64 bytes ≡ number bytes
 unfolding number
-number_eight (a ∷ b ∷ c ∷ d ∷ a₂ ∷ b₂ ∷ c₂ ∷ d₂ ∷ file) zero h = omega arith
-number_eight (a ∷ b ∷ c ∷ d ∷ a₂ ∷ b₂ ∷ c₂ ∷ []) zero h = absurd (omega arith)
-number_eight (a ∷ b ∷ c ∷ d ∷ a₂ ∷ b₂ ∷ []) zero h = absurd (omega arith)
-number_eight (a ∷ b ∷ c ∷ d ∷ a₂ ∷ []) zero h = absurd (omega arith)
-number_eight (a ∷ b ∷ c ∷ d ∷ []) zero h = absurd (omega arith)
-number_eight (a ∷ b ∷ c ∷ []) zero h = absurd (omega arith)
-number_eight (a ∷ b ∷ []) zero h = absurd (omega arith)
-number_eight (a ∷ []) zero h = absurd (omega arith)
-number_eight [] p h = absurd (omega arith)
-number_eight (a ∷ file) (suc p) h = simp unary_clauses (simp unary_clauses at (number_eight file p (omega arith)))
+le_eight (a ∷ b ∷ c ∷ d ∷ a₂ ∷ b₂ ∷ c₂ ∷ d₂ ∷ []) h = omega arith
+le_eight [] h = absurd (omega arith)
+le_eight (a ∷ []) h = absurd (omega arith)
+le_eight (a ∷ b ∷ []) h = absurd (omega arith)
+le_eight (a ∷ b ∷ c ∷ []) h = absurd (omega arith)
+le_eight (a ∷ b ∷ c ∷ d ∷ []) h = absurd (omega arith)
+le_eight (a ∷ b ∷ c ∷ d ∷ a₂ ∷ []) h = absurd (omega arith)
+le_eight (a ∷ b ∷ c ∷ d ∷ a₂ ∷ b₂ ∷ []) h = absurd (omega arith)
+le_eight (a ∷ b ∷ c ∷ d ∷ a₂ ∷ b₂ ∷ c₂ ∷ []) h = absurd (omega arith)
+le_eight (a ∷ b ∷ c ∷ d ∷ a₂ ∷ b₂ ∷ c₂ ∷ d₂ ∷ e ∷ bytes) h = absurd (omega arith)
 
 module _ (file : List ℕ) (p : ℕ) (within : p ≤ length file) where
   pub left_at : length (drop p file) ≡ length file - p
@@ -55,45 +49,31 @@ module _ (file : List ℕ) (p : ℕ) (within : p ≤ length file) where
   pub place_at : length file - length (drop p file) ≡ p
   place_at = rw left_at (omega arith)
 
-  module _ (part : Part) (unit limit : ℕ) (why : Reason) (e : Steps) where
-    pub below_short : length file - p < unit → below (length file) part unit limit why (state (drop p file) e) ≡ refused (because Short part p)
-    unfolding below
-    below_short h =
-        let t : ltb (length file - p) unit ≡ true = grind (arith, nat_tests) in
-        rw (place_at, left_at, t)
+-- what is done with the bytes, unless there are too few
+pub by_piece : {A : Type 0} (few : Bool) (n : ℕ) (x : State) (w : Refusal) (k : List ℕ → Reads A) → cond few (refused w) (k (take n x.rest) (record { rest = drop n x.rest; steps = x.steps })) ≡ after (after (cond few (refused w) (got (tt {0}) x)) (λ _. skip n)) k
+unfolding after skip
+by_piece true n x w k = refl
+by_piece false n x w k = refl
 
-    pub below_large : unit ≤ length file - p → limit ≤ number (take unit (drop p file)) → below (length file) part unit limit why (state (drop p file) e) ≡ refused (because why part p)
-    unfolding below
-    below_large h l =
-        let t : ltb (length file - p) unit ≡ false = grind (arith, nat_tests) in
-        let u : ltb (number (take unit (drop p file))) limit ≡ false = grind (arith, nat_tests) in
-        rw (place_at, left_at, t, u)
+-- a number is read from its bytes
+module _ (r s : Reader) (part : Part) (unit limit : ℕ) (why : Reason) where
+  number_read : (x : State) → below (size_of r) part unit limit why x ≡ after (piece (size_of r) part unit x) (λ bytes y. cond (ltb (number bytes) limit) (got (number bytes) y) (refused (because why part (size_of r - length x.rest))))
+  unfolding below after enough skip
+  number_read x = by_piece (ltb (length x.rest) unit) unit x _ (λ bytes y. cond (ltb (number bytes) limit) (got (number bytes) y) (refused (because why part (size_of r - length x.rest))))
 
-    pub below_got : unit ≤ length file - p → number (take unit (drop p file)) < limit → below (length file) part unit limit why (state (drop p file) e) ≡ got (number (take unit (drop p file))) (state (drop unit (drop p file)) e)
-    unfolding below
-    below_got h l =
-        let t : ltb (length file - p) unit ≡ false = grind (arith, nat_tests) in
-        let u : ltb (number (take unit (drop p file))) limit ≡ true = grind (arith, nat_tests) in
-        rw (left_at, t, u)
+  pub number_short : (w : Refusal) → Did r (λ size. piece size part unit) (Err w) s → Did r (λ size. below size part unit limit why) (Err w) s
+  unfolding after
+  number_short w d = record { file = d.file; ran = λ e. number_read (state (rest_of r) e) ∙ rw (d.ran e) }
 
-  module _ (part : Part) (n : ℕ) (e : Steps) where
-    pub piece_short : length file - p < n → piece (length file) part n (state (drop p file) e) ≡ refused (because Short part p)
-    unfolding after enough
-    piece_short h =
-        let t : ltb (length file - p) n ≡ true = grind (arith, nat_tests) in
-        rw (place_at, left_at, t)
+  module _ (bytes : List ℕ) (d : Did r (λ size. piece size part unit) (Ok bytes) s) where
+    pub number_large : limit ≤ number bytes → Did r (λ size. below size part unit limit why) (Err (because why part r.place)) s
+    unfolding after
+    number_large h =
+        let t : ltb (number bytes) limit ≡ false = grind (arith, nat_tests) in
+        record { file = d.file; ran = λ e. number_read (state (rest_of r) e) ∙ rw (d.ran e, t, place_at r.file.now r.place r.within) }
 
-    pub piece_got : n ≤ length file - p → piece (length file) part n (state (drop p file) e) ≡ got (take n (drop p file)) (state (drop (p + n) file) e)
-    unfolding after enough skip
-    piece_got h =
-        let t : ltb (length file - p) n ≡ false = grind (arith, nat_tests) in
-        rw (left_at, t, drop-drop)
-
-  module _ (s : Setting) (n : ℕ) (e : Steps) (size : s.size ≡ length file) (payload : s.payload ≡ n) where
-    pub boundary_got : eqb ((n - (length file - p)) % 8) 0 ≡ true → on_boundary s (state (drop p file) e) ≡ got tt (state (drop p file) e)
-    unfolding on_boundary
-    boundary_got h = rw (payload, left_at, h)
-
-    pub boundary_refused : eqb ((n - (length file - p)) % 8) 0 ≡ false → on_boundary s (state (drop p file) e) ≡ refused (because BadContent Record p)
-    unfolding on_boundary
-    boundary_refused h = rw (payload, size, place_at, left_at, h)
+    pub number_got : number bytes < limit → Did r (λ size. below size part unit limit why) (Ok (number bytes)) s
+    unfolding after
+    number_got h =
+        let t : ltb (number bytes) limit ≡ true = grind (arith, nat_tests) in
+        record { file = d.file; ran = λ e. number_read (state (rest_of r) e) ∙ rw (d.ran e, t) }

@@ -1,13 +1,13 @@
 pub mod Adding
-pub mod Bools
-pub mod Ends
+pub mod Chunks
 pub mod Fields
 pub mod Filling
 pub mod Headings
+pub mod Inner
 pub mod Names
 pub mod Series
 pub mod Sharing
-pub mod Starts
 pub mod Tabled
+pub mod Texting
 pub mod Then
 pub mod Walked

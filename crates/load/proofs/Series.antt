@@ -1,28 +1,17 @@
 -- What runs of numbers come to.
-use Rattle.std.proofs.Common.{◌≡◌, ℕ, zero, suc, ◌+◌, ◌-◌, ◌*◌, ◌<◌, ◌≤◌, true, false, ltb, List, [], ◌∷◌, ◌++◌, length, take, drop, refl, ap, ◌∙◌, suc-mul, add_comm, zero-mul, arith, length-drop, take-take, drop-drop}
+use Rattle.std.proofs.Common.{◌≡◌, ℕ, zero, suc, ◌+◌, ◌-◌, ◌*◌, ◌<◌, ◌≤◌, Bool, true, false, cond, ltb, List, [], ◌∷◌, ◌++◌, length, take, drop, Some, None, Option, Ok, Err, refl, ap, ◌∙◌, suc-mul, add_comm, zero-mul, arith, length-drop, length-take, take-take, drop-drop}
 use Rattle.std.proofs.lemmas.List.{drop-take}
 use Rattle.std.proofs.lemmas.Bool.Decides.{nat_tests}
+use Rattle.refusal.specs.declared.Refusal.{Refusal}
 use Rattle.refusal.specs.declared.Part.{Part}
-use Rattle.refusal.specs.declared.Reason.TheVariants.{Short}
 use Rattle.refusal.specs.declared.Reason.{Reason}
 use Rattle.steps.specs.Steps.{Steps}
 use Rattle.redbin.specs.Bytes.{number}
-use Rattle.redbin.specs.Reading.{got, refused, because, after, enough, below, series, run}
-use Rattle.load.proofs.Fields.{left_at, place_at}
-use Rattle.load.specs.Ran.{state}
-use Rattle.load.specs.Runs.{width, entry, entries}
-use Rattle.load.specs.declared.unit.Width.{Width}
-use Rattle.load.specs.declared.unit.Width.TheVariants.{One, Two, Four}
-
--- the number at an index lies inside a run
-pub inside : (unit : Width) (p i n m : ℕ) → i < n → p + n * width unit ≤ m → p + i * width unit + width unit ≤ m
-inside One p i n m lt h = omega arith
-inside Two p i n m lt h = omega arith
-inside Four p i n m lt h = omega arith
-
--- its bytes, by their place in the file
-pub entry_from : (unit i p : ℕ) (f : List ℕ) → entry unit i (drop p f) ≡ number (take unit (drop (p + i * unit) f))
-entry_from unit i p f = rw (drop-drop (i * unit) p f)
+use Rattle.redbin.specs.Reading.{Reader as State, Reads, got, refused, because, after, enough, skip, below, series, run}
+use Rattle.load.specs.declared.reader.Reader.{Reader}
+use Rattle.load.specs.Ran.{Did, state, size_of, rest_of, piece}
+use Rattle.load.proofs.Fields.{place_at}
+use Rattle.load.specs.Runs.{entry, entries, Sought}
 
 pub entry_first : (unit : ℕ) (bytes : List ℕ) → entry unit 0 bytes ≡ number (take unit bytes)
 entry_first unit bytes = rw (zero-mul unit)
@@ -73,40 +62,59 @@ module _ (size : ℕ) (part : Part) (unit limit : ℕ) (why : Reason) (e : Steps
       rw (below_first bytes (omega arith) first, rest, p)
 
 -- only the bytes of a run matter for it
-pub entries_take : (unit n : ℕ) (bytes : List ℕ) → entries unit n (take (n * unit) bytes) ≡ entries unit n bytes
+entries_take : (unit n : ℕ) (bytes : List ℕ) → entries unit n (take (n * unit) bytes) ≡ entries unit n bytes
 unfolding entries
 entries_take unit zero bytes = refl
 entries_take unit (suc n) bytes =
     let s : suc n * unit ≡ unit + n * unit = suc-mul n unit ∙ add_comm (n * unit) unit in
     rw (s, take-take unit (unit + n * unit) bytes (omega arith), drop-take unit (n * unit) bytes, entries_take unit n (drop unit bytes))
 
-module _ (f : List ℕ) (p : ℕ) (within : p ≤ length f) (part : Part) (unit limit : ℕ) (why : Reason) (n : ℕ) (e : Steps) where
-  pub run_short : length f - p < n * unit → run (length f) part unit limit why n (state (drop p f) e) ≡ refused (because Short part p)
-  unfolding run after enough
-  run_short h =
-      let t : ltb (length f - p) (n * unit) ≡ true = grind (arith, nat_tests) in
-      rw (place_at f p within, left_at f p within, t)
+entry_take : (unit n i : ℕ) (bytes : List ℕ) → i < n → entry unit i (take (n * unit) bytes) ≡ entry unit i bytes
+entry_take unit zero i bytes lt = absurd (omega arith)
+entry_take unit (suc n) zero bytes lt = rw (entry_first unit bytes, entry_first unit (take (suc n * unit) bytes), take-take unit (suc n * unit) bytes (omega (arith, suc-mul n unit)))
+entry_take unit (suc n) (suc i) bytes lt =
+    let s : suc n * unit ≡ unit + n * unit = suc-mul n unit ∙ add_comm (n * unit) unit in
+    rw (entry_next unit i bytes, entry_next unit i (take (suc n * unit) bytes), s, drop-take unit (n * unit) bytes) (entry_take unit n i (drop unit bytes) (omega arith))
 
-  module _ (fits : n * unit ≤ length f - p) where
-    enough_first : run (length f) part unit limit why n (state (drop p f) e) ≡ series (length f) part unit limit why n (state (drop p f) e)
-    unfolding run after enough
-    enough_first =
-        let t : ltb (length f - p) (n * unit) ≡ false = grind (arith, nat_tests) in
-        rw (left_at f p within, t)
+-- what is sought in the bytes of a run is sought in what is left of the file
+sought_in : (unit limit n : ℕ) (bytes : List ℕ) (o : Option ℕ) → Sought unit limit n (take (n * unit) bytes) o → Sought unit limit n bytes o
+sought_in unit limit n bytes None h = λ i lt. let g = h i lt in rw (entry_take unit n i bytes lt) at g
+sought_in unit limit n bytes (Some k) h =
+    (h.0, (let g = h.1 in rw (entry_take unit n k bytes h.0) at g), λ i lt. let g = h.2 i lt in rw (entry_take unit n i bytes (omega (arith, h.0))) at g)
 
-    pub run_got : ((i : ℕ) → i < n → entry unit i (drop p f) < limit) →
-        run (length f) part unit limit why n (state (drop p f) e) ≡ got (entries unit n (take (n * unit) (drop p f))) (state (drop (p + n * unit) f) e)
-    run_got all =
-        let l = left_at f p within in
-        enough_first ∙ series_all (length f) part unit limit why e n (drop p f) (rw l fits) all
-        ∙ rw (drop-drop (n * unit) p f, entries_take unit n (drop p f))
+read_twice : {A : Type 0} (few : Bool) (n : ℕ) (x : State) (w : Refusal) (m : Reads A) → after (cond few (refused w) (got (tt {0}) x)) (λ _. m) ≡ after (after (cond few (refused w) (got (tt {0}) x)) (λ _. skip n)) (λ _ _. m x)
+unfolding after skip
+read_twice true n x w m = refl
+read_twice false n x w m = refl
 
-    pub run_bad : (k : ℕ) → k < n → limit ≤ entry unit k (drop p f) → ((i : ℕ) → i < k → entry unit i (drop p f) < limit) →
-        run (length f) part unit limit why n (state (drop p f) e) ≡ refused (because why part (p + k * unit))
-    run_bad k lt bad all =
-        let l = left_at f p within in
-        let s = place_at f p within in
-        enough_first ∙ series_bad (length f) part unit limit why e n k (drop p f) (rw l (omega arith)) (rw l fits) lt bad all ∙ rw s
+-- a run is read from its bytes
+module _ (r s : Reader) (part : Part) (unit limit : ℕ) (why : Reason) (n : ℕ) where
+  run_read : (x : State) → run (size_of r) part unit limit why n x ≡ after (piece (size_of r) part (n * unit) x) (λ _ _. series (size_of r) part unit limit why n x)
+  unfolding run enough
+  run_read x = read_twice (ltb (length x.rest) (n * unit)) (n * unit) x _ (series (size_of r) part unit limit why n)
+
+  pub run_short : (w : Refusal) → Did r (λ size. piece size part (n * unit)) (Err w) s → Did r (λ size. run size part unit limit why n) (Err w) s
+  unfolding after
+  run_short w d = record { file = d.file; ran = λ e. run_read (state (rest_of r) e) ∙ rw (d.ran e) }
+
+  module _ (bytes : List ℕ) (d : Did r (λ size. piece size part (n * unit)) (Ok bytes) s) (is : bytes ≡ take (n * unit) (rest_of r)) (long : length bytes ≡ n * unit) where
+    fits : n * unit ≤ length (rest_of r)
+    fits = omega (arith, long, ap length is, length-take {A = ℕ})
+
+    begins : (e : Steps) → run (size_of r) part unit limit why n (state (rest_of r) e) ≡ series (size_of r) part unit limit why n (state (rest_of r) e)
+    unfolding after
+    begins e = run_read (state (rest_of r) e) ∙ rw (d.ran e)
+
+    pub run_got : s.place ≡ r.place + n * unit → Sought unit limit n bytes None → Did r (λ size. run size part unit limit why n) (Ok (entries unit n bytes)) s
+    run_got moved h =
+        let all : Sought unit limit n (rest_of r) None = sought_in unit limit n (rest_of r) None (rw is at h) in
+        record { file = d.file; ran = λ e. begins e ∙ series_all (size_of r) part unit limit why e n (rest_of r) fits all ∙ rw (is, entries_take unit n (rest_of r), d.file, moved, drop-drop (n * unit) r.place r.file.now) }
+
+    pub run_bad : (k : ℕ) → Sought unit limit n bytes (Some k) → Did r (λ size. run size part unit limit why n) (Err (because why part (r.place + k * unit))) s
+    run_bad k h =
+        let g : Sought unit limit n (rest_of r) (Some k) = sought_in unit limit n (rest_of r) (Some k) (rw is at h) in
+        let p = place_at r.file.now r.place r.within in
+        record { file = d.file; ran = λ e. begins e ∙ series_bad (size_of r) part unit limit why e n k (rest_of r) (omega (arith, length-drop r.place r.file.now)) fits g.0 g.1 g.2 ∙ rw p }
 
 -- one number more
 pub entries_more : (unit n : ℕ) (bytes : List ℕ) → entries unit (suc n) bytes ≡ entries unit n bytes ++ (entry unit n bytes ∷ [])

@@ -8,15 +8,6 @@ use Rattle.load.proofs.Fields.{place_at}
 use Rattle.load.specs.Filled.{Came}
 use Rattle.load.specs.Ran.{Ran, Did, state, size_of, rest_of}
 
-pub ran_then : {A B : Type 0} (m : Reads A) (k : A → Reads B) (a : A) (x y z : List ℕ) (answer : Result B Refusal) → Ran m x (Ok a) y → Ran (k a) y answer z → Ran (m >>= k) x answer z
-unfolding after
-ran_then m k a x y z (Ok b) f g = λ e. rw (f e) (g e)
-ran_then m k a x y z (Err w) f g = λ e. rw (f e) (g e)
-
-pub ran_stop : {A B : Type 0} (m : Reads A) (k : A → Reads B) (w : Refusal) (x y z : List ℕ) → Ran m x (Err w) y → Ran (m >>= k) x (Err w) z
-unfolding after
-ran_stop m k w x y z f = λ e. rw (f e)
-
 -- a reading that comes to another
 pub ran_by : {A : Type 0} (m m' : Reads A) (x y z : List ℕ) (answer : Result A Refusal) → ((e : Steps) → m (state x e) ≡ m' (state y e)) → Ran m' y answer z → Ran m x answer z
 ran_by m m' x y z (Ok b) h g = λ e. h e ∙ g e
@@ -40,3 +31,8 @@ pub came_then : {A B : Type 0} (m : Reads A) (k : A → Reads B) (a : A) (x y z 
 unfolding after
 came_then m k a x y z d e f (Ok b) h g = rw h g
 came_then m k a x y z d e f (Err w) h g = rw h g
+
+-- a reading that comes to another
+pub came_by : {A : Type 0} (m m' : Reads A) (x y z : List ℕ) (d e f : Steps) (answer : Result A Refusal) → m (state x d) ≡ m' (state y e) → Came m' y e answer z f → Came m x d answer z f
+came_by m m' x y z d e f (Ok b) h g = h ∙ g
+came_by m m' x y z d e f (Err w) h g = h ∙ g

@@ -1,123 +1,88 @@
--- How the values that a holder holds are counted.
-use Rattle.std.proofs.Common.{◌≡◌, ℕ, zero, suc, ◌+◌, ◌-◌, ◌*◌, ◌<◌, ◌≤◌, Bool, true, false, cond, ◌&&◌, eqb, ltb, ◌⊎◌, List, [], ◌∷◌, ◌++◌, length, take, drop, Some, None, sym, refl, ap, ◌∙◌, inl, inr, arith, length-append, drop-drop}
+-- The values that a holder holds, and how paths lead to them.
+use Rattle.std.proofs.Common.{◌≡◌, ℕ, zero, suc, ◌+◌, ◌<◌, Bool, true, false, cond, eqb, List, [], ◌∷◌, ◌++◌, map, length, get_or, drop, Some, None, Option, sym, refl, ap, ◌∙◌, arith}
+use Rattle.std.specs.List.{filter, range_with_len, slice_get}
+use Rattle.std.specs.Option.{option_map}
+use Rattle.std.proofs.Math.Seq.{drop-cons}
 use Rattle.std.proofs.lemmas.Bool.Decides.{nat_tests}
+use Rattle.std.proofs.lemmas.List.Elements.{filter-append}
 use Rattle.steps.specs.declared.parts.Node.{Node}
-use Rattle.steps.specs.Outline.{Entry, entry_at, same_holder, inner, nth, walk, onward, through}
+use Rattle.steps.specs.Outline.{Entry, entry_at, begun_at, held_by, same_holder, inner, nth, walk, onward, through}
 use Rattle.redbin.specs.Bytes.{number}
-use Rattle.load.specs.Runs.{entries}
-use Rattle.load.specs.Paths.{held}
 
-abbrev pub one_if : Bool → ℕ
-one_if b = cond b 1 0
+-- whether the value of a number is held
+abbrev pub holds : List Entry → Node → ℕ → Bool
+holds xs h n = held_by (entry_at xs n) h
 
--- how many values with numbers below this one are held by a holder
-unfoldable pub count_below : List Entry → Node → ℕ → ℕ
-count_below [] h i = 0
-count_below (x ∷ xs) h i = count_below xs h i + one_if (ltb (length xs) i && same_holder x.holder h)
+range_more : (a n : ℕ) → range_with_len a (suc n) ≡ range_with_len a n ++ ((a + n) ∷ [])
+range_more a zero = let e : a ≡ a + 0 = omega arith in ap (λ (k : ℕ). k ∷ []) e
+range_more a (suc n) = let e : a + 1 + n ≡ a + suc n = omega arith in ap (λ (ks : List ℕ). a ∷ ks) (range_more (a + 1) n ∙ ap (λ (k : ℕ). range_with_len (a + 1) n ++ (k ∷ [])) e)
 
-nth_front : (a b : List ℕ) (k n : ℕ) → nth a k ≡ Some n → nth (a ++ b) k ≡ Some n
-unfolding nth
-nth_front [] b k n h = let z : ◌≡◌ {A = ℕ} 0 1 = cc in absurd (omega arith)
-nth_front (x ∷ a) b zero n h = h
-nth_front (x ∷ a) b (suc k) n h = nth_front a b k n h
+-- only the numbers in a range matter for what passes
+pass_alike : (p q : ℕ → Bool) (a n : ℕ) → ((i : ℕ) → i < a + n → p i ≡ q i) → filter p (range_with_len a n) ≡ filter q (range_with_len a n)
+pass_alike p q a zero h = refl
+pass_alike p q a (suc n) h = rw (h a (omega arith), pass_alike p q (a + 1) n (λ i lt. h i (omega arith)))
 
-nth_next : (a : List ℕ) (n : ℕ) → nth (a ++ (n ∷ [])) (length a) ≡ Some n
-unfolding nth
-nth_next [] n = refl
-nth_next (x ∷ a) n = nth_next a n
-
-pub nth_past : (a : List ℕ) (k : ℕ) → length a ≤ k → nth a k ≡ None
-unfolding nth
-nth_past [] k h = refl
-nth_past (x ∷ a) zero h = absurd (omega arith)
-nth_past (x ∷ a) (suc k) h = nth_past a k (omega arith)
-
-length_one : (b : Bool) (n : ℕ) → length (cond b (n ∷ []) []) ≡ one_if b
-length_one true n = refl
-length_one false n = refl
-
-pub count_none : (xs : List Entry) (h : Node) → count_below xs h 0 ≡ 0
-unfolding count_below
-count_none [] h = refl
-count_none (x ∷ xs) h =
-    let t : ltb (length xs) 0 ≡ false = grind (arith, nat_tests) in
-    rw (count_none xs h, t)
-
-pub count_all : (xs : List Entry) (h : Node) (i : ℕ) → length xs ≤ i → count_below xs h i ≡ length (inner xs h)
-unfolding count_below inner
-count_all [] h i le = refl
-count_all (x ∷ xs) h i le =
-    let t : ltb (length xs) i ≡ true = grind (arith, nat_tests) in
-    rw (length-append (inner xs h) (cond (same_holder x.holder h) (length xs ∷ []) []), length_one (same_holder x.holder h) (length xs), count_all xs h i (omega arith), t)
-
--- the newest value, or an older one
-pub held_newest : (x : Entry) (xs : List Entry) (h : Node) (i : ℕ) → i ≡ length xs → held (x ∷ xs) i h ≡ same_holder x.holder h
+newest : (x : Entry) (xs : List Entry) (h : Node) → holds (x ∷ xs) h (length xs) ≡ same_holder x.holder h
 unfolding entry_at
-held_newest x xs h i e =
-    let t : eqb i (length xs) ≡ true = grind (arith, nat_tests) in
+newest x xs h =
+    let t : eqb (length xs) (length xs) ≡ true = grind (arith, nat_tests) in
     rw t
 
-pub held_older : (x : Entry) (xs : List Entry) (h : Node) (i : ℕ) → i < length xs → held (x ∷ xs) i h ≡ held xs i h
+older : (x : Entry) (xs : List Entry) (h : Node) (i : ℕ) → i < length xs → holds (x ∷ xs) h i ≡ holds xs h i
 unfolding entry_at
-held_older x xs h i lt =
+older x xs h i lt =
     let t : eqb i (length xs) ≡ false = grind (arith, nat_tests) in
     rw t
 
-split : (i n : ℕ) → i < suc n → (i ≡ n) ⊎ (i < n)
-split zero zero lt = inl refl
-split zero (suc n) lt = inr (omega arith)
-split (suc i) zero lt = absurd (omega arith)
-split (suc i) (suc n) lt = elim (split i n (omega arith)) [ inl e ↦ inl (ap suc e) | inr l ↦ inr (omega arith) ]
+pub held_numbers : (xs : List Entry) (h : Node) → filter (holds xs h) (range_with_len 0 (length xs)) ≡ inner xs h
+unfolding inner
+held_numbers [] h = refl
+held_numbers (x ∷ xs) h =
+    ap (filter (holds (x ∷ xs) h)) (range_more 0 (length xs))
+    ∙ filter-append (holds (x ∷ xs) h) (range_with_len 0 (length xs)) ((0 + length xs) ∷ [])
+    ∙ ap (λ (ns : List ℕ). ns ++ filter (holds (x ∷ xs) h) ((0 + length xs) ∷ [])) (pass_alike (holds (x ∷ xs) h) (holds xs h) 0 (length xs) (λ i lt. older x xs h i (omega arith)) ∙ held_numbers xs h)
+    ∙ last
+  where
+    last : inner xs h ++ filter (holds (x ∷ xs) h) ((0 + length xs) ∷ []) ≡ inner xs h ++ cond (same_holder x.holder h) (length xs ∷ []) []
+    last = let z : 0 + length xs ≡ length xs = omega arith in rw (z, newest x xs h) refl
 
-pub count_more : (xs : List Entry) (h : Node) (i : ℕ) → i < length xs → count_below xs h (i + 1) ≡ count_below xs h i + one_if (held xs i h)
-unfolding count_below
-count_more [] h i lt = absurd (omega arith)
-count_more (x ∷ xs) h i lt = elim (split i (length xs) lt) [
-  | inl e ↦
-      (let t : ltb (length xs) (i + 1) ≡ true = grind (arith, nat_tests) in
-      let f : ltb (length xs) i ≡ false = grind (arith, nat_tests) in
-      let a = count_all xs h (i + 1) (omega arith) in
-      let b = count_all xs h i (omega arith) in
-      rw (held_newest x xs h i e, t, f, a, b) (omega arith))
-  | inr l ↦
-      (let t : ltb (length xs) (i + 1) ≡ false = grind (arith, nat_tests) in
-      let f : ltb (length xs) i ≡ false = grind (arith, nat_tests) in
-      rw (held_older x xs h i l, t, f, count_more xs h i l) (omega arith))
-]
+nth_get : (ns : List ℕ) (i : ℕ) → slice_get ns i ≡ nth ns i
+unfolding nth
+nth_get [] i = refl
+nth_get (n ∷ ns) zero = refl
+nth_get (n ∷ ns) (suc i) = nth_get ns i
 
-pub count_hit : (xs : List Entry) (h : Node) (i : ℕ) → i < length xs → held xs i h ≡ true → nth (inner xs h) (count_below xs h i) ≡ Some i
-unfolding count_below inner
-count_hit [] h i lt y = absurd (omega arith)
-count_hit (x ∷ xs) h i lt y = elim (split i (length xs) lt) [
-  | inl e ↦
-      (let f : ltb (length xs) i ≡ false = grind (arith, nat_tests) in
-      let b = count_all xs h i (omega arith) in
-      let s = sym (held_newest x xs h i e) ∙ y in
-      let z : length (inner xs h) + 0 ≡ length (inner xs h) = omega arith in
-      rw (f, b, z, s, e) (nth_next (inner xs h) (length xs)))
-  | inr l ↦
-      (let f : ltb (length xs) i ≡ false = grind (arith, nat_tests) in
-      let z : count_below xs h i + 0 ≡ count_below xs h i = omega arith in
-      rw (f, z) (nth_front (inner xs h) _ (count_below xs h i) i (count_hit xs h i l (sym (held_older x xs h i l) ∙ y))))
-]
+as_is : (o : Option ℕ) → option_map (λ (n : ℕ). n) o ≡ o
+as_is None = refl
+as_is (Some n) = refl
+
+-- the inner value at an index
+pub nth_held : (xs : List Entry) (h : Node) (n i : ℕ) (o : Option ℕ) → n ≡ length xs → option_map (λ (n : ℕ). n) o ≡ slice_get (filter (holds xs h) (range_with_len 0 n)) i → o ≡ nth (inner xs h) i
+nth_held xs h n i o e k = sym (as_is o) ∙ k ∙ rw (e, held_numbers xs h) (nth_get (inner xs h) i)
+
+-- the value of a number, without its label and holder
+pub begun_in : (xs : List Entry) (n : ℕ) → begun_at xs n ≡ option_map (λ (x : Entry). x.begun) (entry_at xs n)
+unfolding begun_at entry_at
+begun_in [] n = refl
+begun_in (x ∷ xs) n = first (eqb n (length xs)) (begun_in xs n)
+  where
+    first : (b : Bool) → begun_at xs n ≡ option_map (λ (x : Entry). x.begun) (entry_at xs n) → cond b (Some x.begun) (begun_at xs n) ≡ option_map (λ (x : Entry). x.begun) (cond b (Some x) (entry_at xs n))
+    first true h = refl
+    first false h = h
 
 -- no path leads on from nowhere
-pub walk_none : (xs : List Entry) (os : List ℕ) → walk xs None os ≡ None
+walk_none : (xs : List Entry) (os : List ℕ) → walk xs None os ≡ None
 unfolding walk
 walk_none xs [] = refl
 walk_none xs (o ∷ os) = walk_none xs os
 
-module _ (xs : List Entry) (node : Node) (path : List ℕ) (n i at v : ℕ) (lt : i < n) (ea : at ≡ i * 4) (ev : v ≡ number (take 4 (drop at path))) where
-  walk_first : walk xs (Some node) (entries 4 (n - i) (drop (i * 4) path)) ≡ walk xs (onward xs (Some node) v) (entries 4 (n - (i + 1)) (drop ((i + 1) * 4) path))
-  unfolding walk entries
-  walk_first =
-      let m : n - i ≡ suc (n - (i + 1)) = omega arith in
-      let k : (i + 1) * 4 ≡ i * 4 + 4 = omega arith in
-      rw (m, drop-drop 4 (i * 4) path, k, ← ea, ← ev)
+module _ (xs : List Entry) (node : Node) (path : List (List ℕ)) (i : ℕ) (lt : i < length path) where
+  walk_first : walk xs (Some node) (map number (drop i path)) ≡ walk xs (onward xs (Some node) (number (get_or path i []))) (map number (drop (i + 1) path))
+  unfolding walk
+  walk_first = let k : i + 1 ≡ suc i = omega arith in rw (drop-cons path i [], k)
 
-  pub walk_on : (number : ℕ) → Some number ≡ nth (inner xs node) v →
-      walk xs (Some (through xs number)) (entries 4 (n - (i + 1)) (drop ((i + 1) * 4) path)) ≡ walk xs (Some node) (entries 4 (n - i) (drop (i * 4) path))
-  walk_on number h = sym (walk_first ∙ rw (← h))
+  pub walk_on : (n : ℕ) → Some n ≡ nth (inner xs node) (number (get_or path i [])) → walk xs (Some (through xs n)) (map number (drop (i + 1) path)) ≡ walk xs (Some node) (map number (drop i path))
+  walk_on n h = sym (walk_first ∙ rw (← h))
 
-  pub walk_off : None ≡ nth (inner xs node) v → None ≡ walk xs (Some node) (entries 4 (n - i) (drop (i * 4) path))
+  pub walk_off : None ≡ nth (inner xs node) (number (get_or path i [])) → None ≡ walk xs (Some node) (map number (drop i path))
   walk_off h = sym (walk_first ∙ rw (← h) (walk_none xs _))

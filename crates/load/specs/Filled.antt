@@ -5,7 +5,7 @@ use Rattle.steps.specs.Steps.{Steps, Name}
 use Rattle.steps.specs.Outline.{opened}
 use Rattle.steps.specs.Law.{deepest, name_ok}
 use Rattle.document.specs.declared.store.Store.{Store}
-use Rattle.document.specs.Standing.{standing, memory_lent, Kept}
+use Rattle.document.specs.Standing.{standing, memory_lent}
 use Rattle.redbin.specs.Reading.{Setting, Reads, got, refused, in_memory}
 use Rattle.load.specs.declared.reader.Reader.{Reader}
 use Rattle.load.specs.Ran.{state, rest_of, size_of}
@@ -17,20 +17,17 @@ Came m x e (Err w) y f = m (state x e) ≡ refused w
 
 -- the next value in a store may have this name, and is not too deep
 pub record Ready (b : Store) (name : Name) : Type 0 where
-  pub kept : Kept b
   pub named : name_ok (opened (standing b)) name ≡ true
   pub deep : length (opened (standing b)) < deepest
 
 -- a call that reads no bytes took a store to another, as a definition says
 pub record Added (b : Store) (m : Setting → Reads (Unit {0})) (answer : Result (Unit {0}) Refusal) (t : Store) : Type 0 where
-  pub kept : Kept t
   pub memory : memory_lent t ≡ memory_lent b
   pub came : (c : Setting) (bytes : List ℕ) → c.uses ≡ in_memory (memory_lent b) → Came (m c) bytes (standing b) answer bytes (standing t)
 
 -- a call took a reader and a store to others, as a definition says
 pub record Filled {A : Type 0} (r : Reader) (b : Store) (m : Setting → Reads A) (answer : Result A Refusal) (s : Reader) (t : Store) : Type 0 where
   pub file : s.file ≡ r.file
-  pub kept : Kept t
   pub memory : memory_lent t ≡ memory_lent b
   pub came : (c : Setting) → c.size ≡ size_of r → c.uses ≡ in_memory (memory_lent b) → Came (m c) (rest_of r) (standing b) answer (rest_of s) (standing t)
 

@@ -2,8 +2,8 @@ pub mod Announced
 pub mod Ends
 pub mod Filled
 pub mod Holders
+pub mod Inner
 pub mod Names
-pub mod Paths
 pub mod Ran
 pub mod Runs
 pub mod Shared

@@ -1,13 +1,6 @@
 -- Runs of numbers in the bytes of a file.
 use Rattle.std.specs.Prelude.{ℕ, zero, suc, ◌*◌, ◌<◌, ◌≤◌, List, [], ◌∷◌, take, drop, Some, None, Option}
 use Rattle.redbin.specs.Bytes.{number}
-use Rattle.load.specs.declared.unit.Width.{Width}
-use Rattle.load.specs.declared.unit.Width.TheVariants.{One, Two, Four}
-
-abbrev pub width : Width → ℕ
-width One = 1
-width Two = 2
-width Four = 4
 
 -- the number in some bytes at an index, where each number has `unit` bytes
 abbrev pub entry : ℕ → ℕ → List ℕ → ℕ

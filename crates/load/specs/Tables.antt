@@ -1,8 +1,8 @@
--- The names of a symbol table, and those of its offsets that lead to none.
-use Rattle.std.specs.Prelude.{◌≡◌, ℕ, ◌/◌, ◌<◌, Bool, true, false, List, [], ◌∷◌, length, Some, None, Option}
+-- The names of a symbol table.
+use Rattle.std.specs.Prelude.{ℕ, Bool, true, false, List, [], ◌∷◌, map, Some, None, Option}
 use Rattle.steps.specs.Steps.{Name}
+use Rattle.redbin.specs.Bytes.{number}
 use Rattle.redbin.specs.Reading.{name_at}
-use Rattle.load.specs.Runs.{entry, entries}
 use Rattle.load.specs.declared.symbols.Symbols.{Symbols}
 
 abbrev pub is_some : Option Name → Bool
@@ -20,9 +20,4 @@ names_of strings (o ∷ os) = or_empty (name_at strings o) ∷ names_of strings 
 
 -- the names of a symbol table
 abbrev pub table_of : Symbols → List Name
-table_of s = names_of s.strings.now (entries 4 (length s.offsets.now / 4) s.offsets.now)
-
--- the index of the first of n offsets that leads to no name; none: all do
-abbrev pub Unnamed : List ℕ → List ℕ → ℕ → Option ℕ → Type 0
-Unnamed strings offsets n None = (i : ℕ) → i < n → is_some (name_at strings (entry 4 i offsets)) ≡ true
-Unnamed strings offsets n (Some k) = (k < n) × (name_at strings (entry 4 k offsets) ≡ None) × ((i : ℕ) → i < k → is_some (name_at strings (entry 4 i offsets)) ≡ true)
+table_of s = names_of s.strings.now (map number s.offsets.now)

@@ -1,57 +1,48 @@
 // Values added to a store.
-ghost use Rattle.std.specs.Prelude.{◌≡◌, true};
+ghost use Rattle.std.specs.Prelude.{◌≡◌, true, MatchResult, Ok as accepted, Err as refused};
+ghost use Rattle.refusal.specs.declared.Reason.TheVariants.{NoMemory};
+ghost use Rattle.refusal.specs.declared.Part.TheVariants.{Record};
 ghost use Rattle.steps.specs.Given.{tag, content};
 ghost use Rattle.steps.specs.Law.{content_ok, begun_ok};
 ghost use Rattle.steps.specs.Outline.{values};
 ghost use Rattle.steps.specs.Steps.{share as sharing};
 ghost use Rattle.document.specs.Standing.{standing};
-ghost use Rattle.redbin.specs.Reading.{add};
+ghost use Rattle.redbin.specs.Reading.{because, add};
 ghost use Rattle.load.specs.Filled.{Ready, Added};
 ghost use Rattle.load.specs.Shared.{shared};
 
+use crate::start::Start;
 use document::store::Store;
 use refusal::{Part, Reason, Refusal};
-use steps::parts::{Label, Node, Share, Value};
+use steps::parts::{Node, Share, Value};
 
-// Puts a value whose header has this place.
-pub fn add(
-    store: &mut Store<'_>,
-    place: usize,
-    label: Label<'_>,
-    value: Value<'_>,
-) -> Result<(), Refusal>
-    requires ready { Ready store.old (tag label).name }
-    requires allowed { content_ok (content value) ≡ true }
-    ensures { Added store.old (λ c. add c place (tag label.entry) (content value.entry)) result store.new }
+// A value that is begun can be refused for memory alone. Its header has this place.
+pub(crate) fn or_no_memory(answer: Result<u32, Reason>, place: usize) -> Result<(), Refusal>
+    ensures { MatchResult answer (λ _. result ≡ accepted tt) (λ _. result ≡ refused (because NoMemory Record place)) }
 {
-    match store.put(label, value) {
+    match answer {
         Ok(_) => Ok(()),
-        Err(_) => Err(Refusal {
-            reason: Reason::NoMemory,
-            part: Part::Record,
-            place,
-        }),
+        Err(_) => Err(Reason::NoMemory.at(Part::Record, place)),
     }
 }
 
-// Shares a value. The share's header has this place.
+pub fn add(store: &mut Store<'_>, start: Start<'_>, value: Value<'_>) -> Result<(), Refusal>
+    requires ready { Ready store.old (tag start.label).name }
+    requires allowed { content_ok (content value) ≡ true }
+    ensures { Added store.old (λ c. add c start.entry.place (tag start.entry.label) (content value.entry)) result store.new }
+{
+    or_no_memory(store.put(start.label, value), start.place)
+}
+
 pub fn add_shared(
     store: &mut Store<'_>,
-    place: usize,
-    label: Label<'_>,
+    start: Start<'_>,
     share: Share,
     target: Node,
 ) -> Result<(), Refusal>
-    requires ready { Ready store.old (tag label).name }
+    requires ready { Ready store.old (tag start.label).name }
     requires allowed { begun_ok (values (standing store.old)) (sharing share target) ≡ true }
-    ensures { Added store.old (λ c. shared c place (tag label.entry) share target) result store.new }
+    ensures { Added store.old (λ c. shared c start.entry.place (tag start.entry.label) share target) result store.new }
 {
-    match store.share(label, share, target) {
-        Ok(_) => Ok(()),
-        Err(_) => Err(Refusal {
-            reason: Reason::NoMemory,
-            part: Part::Record,
-            place,
-        }),
-    }
+    or_no_memory(store.share(start.label, share, target), start.place)
 }

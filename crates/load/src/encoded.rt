@@ -1,4 +1,7 @@
-use crate::unit::Width;
+ghost use Rattle.std.specs.Prelude.{◌≡◌, ◌*◌, length};
+ghost use Rattle.redbin.specs.Layout.{width};
+
+use redbin::width::Width;
 use steps::parts::TextKind;
 
 // A text as a file has it: `count` codepoints, each of a unit's width.
@@ -9,4 +12,5 @@ pub struct Encoded<'f> {
     pub unit: Width,
     pub count: u32,
     pub bytes: &'f [u8],
+    pub ghost long: { length bytes.now ≡ count * width unit },
 }

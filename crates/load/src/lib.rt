@@ -10,6 +10,6 @@ pub mod reader;
 pub mod runs;
 pub mod scalars;
 pub mod shares;
+pub mod start;
 pub mod symbols;
 pub mod texts;
-pub mod unit;

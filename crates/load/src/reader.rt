@@ -1,15 +1,15 @@
 ghost use Rattle.std.specs.Prelude.{◌≤◌, length};
 
-mod contexts;
 mod ends;
 mod fields;
 mod headings;
-mod references;
+mod inner;
 mod runs;
 mod start;
 mod symbols;
 
-// A place in a file that is read from its first byte to its last.
+// A place in a file that is read from its first byte to its last. The whole file is kept beside the place, since refusals name
+// places, and names of values are looked up at places before it.
 #[derive(Drop)]
 pub struct Reader<'f> {
     file: &'f [u8],

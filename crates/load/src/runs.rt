@@ -1,42 +1,44 @@
 // Runs of numbers, each of one, two or four bytes.
-ghost use Rattle.std.specs.Prelude.{◌≡◌, ◌+◌, ◌*◌, ◌≤◌, length, take, drop};
+ghost use Rattle.std.specs.Prelude.{◌≡◌, ◌*◌, ◌/◌, length, take};
 ghost use Rattle.redbin.specs.Bytes.{number};
-ghost use Rattle.load.specs.Runs.{width, Sought};
+ghost use Rattle.redbin.specs.Layout.{width};
+ghost use Rattle.load.specs.Runs.{Sought};
 
-use crate::unit::Width;
+use redbin::width::Width;
 
 // How many bytes so many numbers have.
 pub fn span(unit: Width, n: u32) -> usize
     ensures { result ≡ n * width unit }
 {
-    match unit {
-        Width::One => n as usize,
-        Width::Two => n as usize * 2,
-        Width::Four => n as usize * 4,
+    n as usize * unit.bytes() as usize
+}
+
+// The number that the first four bytes stand for, or all of them where there are fewer.
+pub fn number(bytes: &[u8]) -> u32
+    ensures { result ≡ number (take 4 bytes.now) }
+{
+    match *bytes {
+        [] => 0,
+        [a] => u32::from(a),
+        [a, b] => u32::from_le_bytes([a, b, 0, 0]),
+        [a, b, c] => u32::from_le_bytes([a, b, c, 0]),
+        [a, b, c, d, ..] => u32::from_le_bytes([a, b, c, d]),
     }
 }
 
-// The number at a place in some bytes.
-pub fn number_at(bytes: &[u8], at: usize, unit: Width) -> u32
-    requires { at + width unit ≤ length bytes.now }
-    ensures { result ≡ number (take (width unit) (drop at bytes.now)) }
+// The number of four bytes.
+#[tactic(auto, using(crate::proofs::Fields::le_four))]
+pub fn word(bytes: &[u8; 4]) -> u32
+    ensures { result ≡ number bytes.now }
 {
-    match unit {
-        Width::One => bytes[at] as u32,
-        Width::Two => bytes[at + 1] as u32 * 0x100 + bytes[at] as u32,
-        Width::Four => u32::from_le_bytes([bytes[at], bytes[at + 1], bytes[at + 2], bytes[at + 3]]),
-    }
+    u32::from_le_bytes(*bytes)
 }
 
-// Of the `n` numbers from a place on, the index of the first that is not below a limit.
-pub fn first_bad(bytes: &[u8], place: usize, unit: Width, end: u64, n: u32) -> Option<u32>
-    requires { place + n * width unit ≤ length bytes.now }
-    ensures { Sought (width unit) end n (drop place bytes.now) result }
+// Of the numbers in some bytes, the index of the first that is not below a limit.
+pub fn first_bad(bytes: &[u8], unit: Width, end: u64) -> Option<usize>
+    ensures { Sought (width unit) end (length bytes.now / width unit) bytes.now result }
 {
-    for i in 0..n {
-        if number_at(bytes, place + span(unit, i), unit) as u64 >= end {
-            return Some(i);
-        }
-    }
-    None
+    bytes
+        .chunks_exact(unit.bytes() as usize)
+        .position(|entry| number(entry) as u64 >= end)
 }

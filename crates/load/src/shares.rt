@@ -10,79 +10,73 @@ ghost use Rattle.load.specs.Filled.{Ready, Filled};
 use crate::add::add_shared;
 use crate::paths::target_of;
 use crate::reader::Reader;
-use crate::unit::Width;
+use crate::start::Start;
 use document::store::Store;
+use redbin::layout::FIELD_END;
 use refusal::{Part, Reason, Refusal};
-use steps::item::family_of;
-use steps::parts::{Label, ListKind, Share, TextKind};
+use steps::parts::{ListKind, Share, TextKind};
 
-// Path offsets stop here.
-const FIELD_END: u64 = 0x8000_0000;
-
-// A share's reference, and the share. Its header has this place.
+// A share's reference, and the share.
 pub fn add_share(
     reader: &mut Reader<'_>,
     store: &mut Store<'_>,
-    place: usize,
-    label: Label<'_>,
+    start: Start<'_>,
     share: Share,
 ) -> Result<(), Refusal>
-    requires ready { Ready store.old (tag label).name }
+    requires ready { Ready store.old (tag start.label).name }
     requires allowed { share_ok share ≡ true }
-    ensures { Filled reader.old store.old (λ c. add_share c place (tag label.entry) share) result reader.new store.new }
+    ensures { Filled reader.old store.old (λ c. add_share c start.entry.place (tag start.entry.label) share) result reader.new store.new }
 {
-    let at = reader.reference()?;
-    let n = reader.word(Part::Reference)?;
-    let path = reader.run(Part::Reference, Width::Four, FIELD_END, Reason::Large, n)?;
-    match target_of(store, family_of(share), path, n) {
-        None => Err(Refusal {
-            reason: Reason::BadPath,
-            part: Part::Reference,
-            place: at,
-        }),
-        Some(target) => add_shared(store, place, label, share, target),
-    }
+    let part = Part::Reference;
+    let place = reader.reference()?;
+    let count = reader.word(part)?;
+    let path = reader.words(part, FIELD_END, Reason::Large, count)?;
+    let Some(target) = target_of(store, share.family(), path) else {
+        return Err(Reason::BadPath.at(part, place));
+    };
+    add_shared(store, start, share, target)
 }
 
-// A share of a text: its head, and the rest.
+// A share of a text: its head, and the rest. It stays apart from that of a list: what makes the share of its head would be
+// a closure with a contract, longer than the two lines.
+#[tactic(auto, unfolding(redbin::specs::Reading::content, redbin::specs::Reading::after))]
 pub fn share_text(
     reader: &mut Reader<'_>,
     store: &mut Store<'_>,
-    place: usize,
-    label: Label<'_>,
+    start: Start<'_>,
     kind: TextKind,
 ) -> Result<(), Refusal>
-    requires { Ready store.old (tag label).name }
-    ensures { (one : Name → Reads (Unit {0})) → Filled reader.old store.old (λ c. content c one place (tag label.entry) (shares_text kind)) result reader.new store.new }
+    requires { Ready store.old (tag start.label).name }
+    ensures { (one : Name → Reads (Unit {0})) → Filled reader.old store.old (λ c. content c one start.entry.place (tag start.entry.label) (shares_text kind)) result reader.new store.new }
 {
     let head = reader.word(Part::Record)?;
-    add_share(reader, store, place, label, Share::Text { kind, head })
+    add_share(reader, store, start, Share::Text { kind, head })
 }
 
 // A share of a list: its head, and the rest.
+#[tactic(auto, unfolding(redbin::specs::Reading::content, redbin::specs::Reading::after))]
 pub fn share_list(
     reader: &mut Reader<'_>,
     store: &mut Store<'_>,
-    place: usize,
-    label: Label<'_>,
+    start: Start<'_>,
     kind: ListKind,
 ) -> Result<(), Refusal>
-    requires { Ready store.old (tag label).name }
-    ensures { (one : Name → Reads (Unit {0})) → Filled reader.old store.old (λ c. content c one place (tag label.entry) (shares_list kind)) result reader.new store.new }
+    requires { Ready store.old (tag start.label).name }
+    ensures { (one : Name → Reads (Unit {0})) → Filled reader.old store.old (λ c. content c one start.entry.place (tag start.entry.label) (shares_list kind)) result reader.new store.new }
 {
     let head = reader.word(Part::Record)?;
-    add_share(reader, store, place, label, Share::List { kind, head })
+    add_share(reader, store, start, Share::List { kind, head })
 }
 
+#[tactic(auto, unfolding(redbin::specs::Reading::content))]
 pub fn share_object(
     reader: &mut Reader<'_>,
     store: &mut Store<'_>,
-    place: usize,
-    label: Label<'_>,
+    start: Start<'_>,
     owner: bool,
 ) -> Result<(), Refusal>
-    requires { Ready store.old (tag label).name }
-    ensures { (one : Name → Reads (Unit {0})) → Filled reader.old store.old (λ c. content c one place (tag label.entry) (shares_object owner)) result reader.new store.new }
+    requires { Ready store.old (tag start.label).name }
+    ensures { (one : Name → Reads (Unit {0})) → Filled reader.old store.old (λ c. content c one start.entry.place (tag start.entry.label) (shares_object owner)) result reader.new store.new }
 {
-    add_share(reader, store, place, label, Share::Object { owner })
+    add_share(reader, store, start, Share::Object { owner })
 }

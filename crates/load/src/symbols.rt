@@ -14,36 +14,22 @@ const NAME_END: usize = 256;
 fn first_zero(bytes: &[u8]) -> Option<usize>
     ensures { Zero 256 bytes.now result }
 {
-    let most = bytes.len().min(NAME_END);
-    for i in 0..most {
-        if bytes[i] == 0 {
-            return Some(i);
-        }
-    }
-    None
+    bytes.iter().take(NAME_END).position(|b| *b == 0)
 }
 
 // The name to which an offset leads in the strings.
 pub fn name_at<'s>(strings: &'s [u8], offset: u32) -> Option<&'s [u8]>
     ensures { bytes_in result ≡ name_at strings.now offset }
 {
-    let from = offset as usize;
-    if from >= strings.len() {
-        return None;
-    }
-    let rest = &strings[from..];
-    match first_zero(rest) {
-        None => None,
-        Some(end) => {
-            let name = &rest[..end];
-            if is_name(name) { Some(name) } else { None }
-        }
-    }
+    let rest = strings.get(offset as usize..)?;
+    let end = first_zero(rest)?;
+    let name = &rest[..end];
+    if is_name(name) { Some(name) } else { None }
 }
 
-// The offsets of a file's symbols and the strings to which they lead.
+// The offsets of a file's symbols, each a number of four bytes, and the strings to which they lead.
 #[derive(Clone, Copy)]
 pub struct Symbols<'f> {
-    pub offsets: &'f [u8],
+    pub offsets: &'f [[u8; 4]],
     pub strings: &'f [u8],
 }

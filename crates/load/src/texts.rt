@@ -1,37 +1,24 @@
 // Texts.
-ghost use Rattle.std.specs.Prelude.{◌≡◌, ◌+◌, ◌*◌, ◌≤◌, true, ◌⊎◌, length};
+ghost use Rattle.std.specs.Prelude.{◌≡◌, ◌+◌, ◌≤◌, true};
 ghost use Rattle.steps.specs.Given.{tag};
 ghost use Rattle.steps.specs.Law.{points, used, usable, content_ok};
-ghost use Rattle.document.specs.Standing.{standing, memory_lent, Kept};
+ghost use Rattle.document.specs.Standing.{standing, memory_lent};
 ghost use Rattle.redbin.specs.Bytes.{fill};
 ghost use Rattle.redbin.specs.Reading.{add, add_text};
 ghost use Rattle.load.specs.Filled.{Ready, Added, Filled};
-ghost use Rattle.load.specs.Runs.{width, entries};
+ghost use Rattle.redbin.specs.Layout.{width};
+ghost use Rattle.load.specs.Runs.{entries};
 ghost use Rattle.load.specs.Texts.{Decoded, decoded};
 
 use crate::encoded::Encoded;
 use crate::reader::Reader;
-use crate::runs::{number_at, span};
-use crate::scalars::CODEPOINT_END;
-use crate::unit::Width;
+use crate::runs::{number, span};
+use crate::start::Start;
 use document::store::Store;
+use redbin::layout::{CODEPOINT_END, TEXT_LENGTH_END};
+use redbin::width::Width;
 use refusal::{Part, Reason, Refusal};
-use steps::parts::{Label, TextKind};
-
-// The length of a text stops here.
-const LENGTH_END: u64 = 0x100_0000;
-
-// The width of a text's codepoints, which have 1, 2 or 4 bytes.
-pub fn width_of(unit: u32) -> Width
-    requires { (unit ≡ 1) ⊎ ((unit ≡ 2) ⊎ (unit ≡ 4)) }
-    ensures { width result ≡ unit }
-{
-    match unit {
-        1 => Width::One,
-        2 => Width::Two,
-        _ => Width::Four,
-    }
-}
+use steps::parts::TextKind;
 
 // How many zeros stand behind so many bytes.
 fn fill(size: usize) -> u32
@@ -40,66 +27,53 @@ fn fill(size: usize) -> u32
     ((4 - size % 4) % 4) as u32
 }
 
-// Writes `n` codepoints into the free memory of a store.
-fn decode(store: &mut Store<'_>, bytes: &[u8], unit: Width, n: u32)
-    requires kept { Kept store.old }
-    requires long { n * width unit ≤ length bytes.now }
-    requires fits { used (standing store.old) points + n ≤ usable (memory_lent store.old) points }
-    ensures { Decoded store.old (entries (width unit) n bytes.now) store.new }
+// Writes the codepoints of a text into the free memory of a store.
+fn decode(store: &mut Store<'_>, text: Encoded<'_>)
+    requires { used (standing store.old) points + text.count ≤ usable (memory_lent store.old) points }
+    ensures { Decoded store.old (entries (width text.entry.unit) text.entry.count text.entry.bytes.now) store.new }
 {
-    for i in 0..n {
-        let point = number_at(bytes, span(unit, i), unit);
-        store.write_codepoint(i, point);
+    let codepoints = text.bytes.chunks_exact(text.unit.bytes() as usize);
+    for (i, codepoint) in (0..text.count).zip(codepoints) {
+        store.write_codepoint(i, number(codepoint));
     }
 }
 
-// Puts a text whose codepoints are these `n`. Its header has this place.
-fn add_decoded(
-    store: &mut Store<'_>,
-    place: usize,
-    label: Label<'_>,
-    text: Encoded<'_>,
-) -> Result<(), Refusal>
-    requires ready { Ready store.old (tag label).name }
-    requires long { text.count * width text.unit ≤ length text.bytes.now }
+// Puts a text whose codepoints are these.
+fn add_decoded(store: &mut Store<'_>, start: Start<'_>, text: Encoded<'_>) -> Result<(), Refusal>
+    requires ready { Ready store.old (tag start.label).name }
     requires allowed { content_ok (decoded text) ≡ true }
-    ensures { Added store.old (λ c. add c place (tag label.entry) (decoded text.entry)) result store.new }
+    ensures { Added store.old (λ c. add c start.entry.place (tag start.entry.label) (decoded text.entry)) result store.new }
 {
-    if !store.has_room(text.count as usize, label.name.len()) {
-        return Err(Refusal {
-            reason: Reason::NoMemory,
-            part: Part::Record,
-            place,
-        });
+    if !store.has_room(text.count as usize, start.label.name.len()) {
+        return Err(Reason::NoMemory.at(Part::Record, start.place));
     }
-    decode(store, text.bytes, text.unit, text.count);
-    store.add_text(label, text.kind, text.head, text.count);
+    decode(store, text);
+    store.add_text(start.label, text.kind, text.head, text.count);
     Ok(())
 }
 
-// A text's head, length, codepoints and the zeros behind them. Its header has this place.
+// A text's head, length, codepoints and the zeros behind them.
 pub fn add_text(
     reader: &mut Reader<'_>,
     store: &mut Store<'_>,
-    place: usize,
-    label: Label<'_>,
+    start: Start<'_>,
     kind: TextKind,
     unit: Width,
 ) -> Result<(), Refusal>
-    requires { Ready store.old (tag label).name }
-    ensures { Filled reader.old store.old (λ c. add_text c place (tag label.entry) kind (width unit)) result reader.new store.new }
+    requires { Ready store.old (tag start.label).name }
+    ensures { Filled reader.old store.old (λ c. add_text c start.entry.place (tag start.entry.label) kind (width unit)) result reader.new store.new }
 {
     let part = Part::Record;
     let head = reader.word(part)?;
-    let n = reader.number(part, LENGTH_END, Reason::Large)?;
-    let bytes = reader.run(part, unit, CODEPOINT_END, Reason::BadContent, n)?;
-    reader.run(part, Width::One, 1, Reason::BadContent, fill(span(unit, n)))?;
+    let count = reader.number(part, TEXT_LENGTH_END, Reason::Large)?;
+    let bytes = reader.run(part, unit, CODEPOINT_END, Reason::BadContent, count)?;
+    reader.run(part, Width::One, 1, Reason::BadContent, fill(bytes.len()))?;
     let text = Encoded {
         kind,
         head,
         unit,
-        count: n,
+        count,
         bytes,
     };
-    add_decoded(store, place, label, text)
+    add_decoded(store, start, text)
 }

@@ -5,49 +5,43 @@ use Rattle.refusal.specs.declared.Reason.TheVariants.{TooDeep}
 use Rattle.refusal.specs.declared.Part.TheVariants.{Record}
 use Rattle.steps.specs.Steps.{Name, Tag}
 use Rattle.document.specs.declared.store.Store.{Store}
-use Rattle.document.specs.Standing.{standing, Kept}
+use Rattle.document.specs.Standing.{standing}
 use Rattle.redbin.specs.declared.form.Form.{Form}
 use Rattle.redbin.specs.Reading.{Reader as State, Setting, Reads, Heading, refused, because, after, return, content, heading, value}
 use Rattle.load.specs.declared.reader.Reader.{Reader}
 use Rattle.load.specs.Ran.{DidIn, state, rest_of}
-use Rattle.load.specs.Filled.{Added, Filled}
-use Rattle.load_file.specs.declared.depth.Depth.{Depth}
-use Rattle.load_file.specs.declared.levels.Levels.{Levels}
+use Rattle.load.specs.Filled.{Added, Filled, with_payload}
 use Rattle.load_file.specs.declared.scope.Scope.{Scope}
 use Rattle.load_file.specs.Scopes.{within}
-use Rattle.load_file.specs.Values.{Valued}
 use Rattle.load_file.proofs.Binds.{labelled, value_in, value_deep}
-use Rattle.load.proofs.Sharing.{came_by}
+use Rattle.load.proofs.Then.{came_by}
 use Rattle.load_file.proofs.Chains.{same_size}
 
 -- a definition that comes to another
 pub filled_by : {A : Type 0} (r s : Reader) (b t : Store) (m m' : Setting → Reads A) (answer : Result A Refusal) → ((c : Setting) (q : State) → m c q ≡ m' c q) → Filled r b m' answer s t → Filled r b m answer s t
 filled_by r s b t m m' answer h g = record {
   file = g.file;
-  kept = g.kept;
   memory = g.memory;
   came = λ c e u. came_by (m c) (m' c) (rest_of r) (rest_of r) (rest_of s) (standing b) (standing b) (standing t) answer (h c (state (rest_of r) (standing b))) (g.came c e u);
 }
 
 -- a call that reads no bytes
 pub added_fills : (r : Reader) (b t : Store) (m : Setting → Reads (Unit {0})) (answer : Result (Unit {0}) Refusal) → Added b m answer t → Filled r b m answer r t
-added_fills r b t m answer d = record { file = refl; kept = d.kept; memory = d.memory; came = λ c e u. d.came c (rest_of r) u }
+added_fills r b t m answer d = record { file = refl; memory = d.memory; came = λ c e u. d.came c (rest_of r) u }
 
 -- a value that holds no others is read alike whatever reads the values in it
-pub leaf_valued : (k : Scope) (n place : ℕ) (l : Tag) (f g : Form) (r s : Reader) (d : Depth) (v : Levels) (b t : Store) (answer : Result (Unit {0}) Refusal) → f ≡ g
-    → ((one : Name → Reads (Unit {0})) → Filled r b (λ c. content (within k c) one place l g) answer s t) → Valued k (λ c. content c (value c n) place l f) r d v b answer s d v t
-leaf_valued k n place l f g r s d v b t answer e h =
+pub leaf_paid : (k : Scope) (n place : ℕ) (l : Tag) (f g : Form) (r s : Reader) (b t : Store) (answer : Result (Unit {0}) Refusal) → f ≡ g
+    → ((one : Name → Reads (Unit {0})) → Filled r b (λ c. content (with_payload k.payload c) one place l g) answer s t) → Filled r b (λ c. content (within k c) (value (within k c) n) place l f) answer s t
+leaf_paid k n place l f g r s b t answer e h =
     let one : Name → Reads (Unit {0}) = λ _. return tt in
-    subst (λ (f : Form). Valued k (λ c. content c (value c n) place l f) r d v b answer s d v t) (sym e)
-    (record {
-      filled = record { file = (h one).file; kept = (h one).kept; memory = (h one).memory; came = λ c q u. (h (value (within k c) n)).came c q u };
-      depth = refl;
-      levels = λ i le. refl;
-    })
+    subst (λ (f : Form). Filled r b (λ c. content (within k c) (value (within k c) n) place l f) answer s t) (sym e)
+    (record { file = (h one).file; memory = (h one).memory; came = λ c q u. (h (value (within k c) n)).came (within k c) q u })
 
--- the same at any setting with the symbols and the payload of the scope
-pub in_scope : (k : Scope) (r s : Reader) (b t : Store) (m : Setting → Reads (Unit {0})) (answer : Result (Unit {0}) Refusal) → Filled r b m answer s t → Filled r b (λ c. m (within k c)) answer s t
-in_scope k r s b t m answer g = record { file = g.file; kept = g.kept; memory = g.memory; came = λ c q u. g.came (within k c) q u }
+-- so it is where the size of the payload makes no difference
+pub leaf_filled : (k : Scope) (n place : ℕ) (l : Tag) (f g : Form) (r s : Reader) (b t : Store) (answer : Result (Unit {0}) Refusal) → f ≡ g
+    → ((one : Name → Reads (Unit {0})) → Filled r b (λ c. content c one place l g) answer s t) → Filled r b (λ c. content (within k c) (value (within k c) n) place l f) answer s t
+leaf_filled k n place l f g r s b t answer e h =
+    leaf_paid k n place l f g r s b t answer e (λ one. record { file = (h one).file; memory = (h one).memory; came = λ c q u. (h one).came (with_payload k.payload c) q u })
 
 -- ---- a value's header
 
@@ -57,14 +51,13 @@ value_refused c zero n q w h = rw h
 value_refused c (suc d) n q w h = rw h
 
 module _ (k : Scope) (d : ℕ) (n : Name) (r s : Reader) (b : Store) where
-  pub heading_stop : (w : Refusal) → Kept b → DidIn r heading (Err w) s → Filled r b (λ c. value (within k c) d n) (Err w) s b
-  heading_stop w kept g = record { file = g.file; kept = kept; memory = refl; came = λ c e u. value_refused (within k c) d n _ w (g.ran (within k c) e (standing b)) }
+  pub heading_stop : (w : Refusal) → DidIn r heading (Err w) s → Filled r b (λ c. value (within k c) d n) (Err w) s b
+  heading_stop w g = record { file = g.file; memory = refl; came = λ c e u. value_refused (within k c) d n _ w (g.ran (within k c) e (standing b)) }
 
-  pub heading_deep : (h : Heading) → d ≡ 0 → Kept b → DidIn r heading (Ok h) s → Filled r b (λ c. value (within k c) d n) (Err (because TooDeep Record h.place)) s b
+  pub heading_deep : (h : Heading) → d ≡ 0 → DidIn r heading (Ok h) s → Filled r b (λ c. value (within k c) d n) (Err (because TooDeep Record h.place)) s b
   unfolding after
-  heading_deep h z kept g = record {
+  heading_deep h z g = record {
     file = g.file;
-    kept = kept;
     memory = refl;
     came = λ c e u. value_deep (within k c) d n (state (rest_of r) (standing b)) z ∙ rw (g.ran (within k c) e (standing b));
   }
@@ -74,7 +67,6 @@ module _ (k : Scope) (d : ℕ) (n : Name) (r s : Reader) (b : Store) where
   unfolding after
   heading_then h q t answer lt g f = record {
     file = f.file ∙ g.file;
-    kept = f.kept;
     memory = f.memory;
     came = λ c e u.
         came_by (value (within k c) d n) (content (within k c) (value (within k c) (d - 1)) h.place (labelled h n) h.form) (rest_of r) (rest_of s) (rest_of q) (standing b) (standing b) (standing t) answer

@@ -21,7 +21,8 @@ use Rattle.load.specs.Ran.{state, rest_of}
 use Rattle.load.specs.Filled.{Added, Filled}
 use Rattle.load_file.specs.declared.scope.Scope.{Scope}
 use Rattle.load_file.specs.declared.scope.Fields.{Fields}
-use Rattle.load_file.specs.Scopes.{within, AllLawful, Start, list_start, object_start, context_start, held}
+use Rattle.load_file.specs.Lawful.{AllLawful}
+use Rattle.load_file.specs.Scopes.{within, Start, list_start, object_start, context_start, held}
 use Rattle.load_file.specs.Values.{Named}
 use Rattle.load_file.proofs.Binds.{held_starts}
 
@@ -49,14 +50,13 @@ module _ (k : Scope) (d place : ℕ) (l : Tag) (s : Start) (r : Reader) (b t : S
 
   pub held_refused : (w : Refusal) → Added b (λ c. opened_with c place l s.holder) (Err w) t → Filled r b whole (Err w) r t
   unfolding after
-  held_refused w a = record { file = refl; kept = a.kept; memory = a.memory; came = λ c e u. starts c (state (rest_of r) (standing b)) ∙ rw (a.came (within k c) (rest_of r) u) }
+  held_refused w a = record { file = refl; memory = a.memory; came = λ c e u. starts c (state (rest_of r) (standing b)) ∙ rw (a.came (within k c) (rest_of r) u) }
 
   module _ (a : Added b (λ c. opened_with c place l s.holder) (Ok tt) t) (q : Reader) (u : Store) where
     pub held_broke : (w : Refusal) → Filled r t inner (Err w) q u → Filled r b whole (Err w) q u
     unfolding after
     held_broke w g = record {
       file = g.file;
-      kept = g.kept;
       memory = g.memory ∙ a.memory;
       came = λ c e v.
           starts c (state (rest_of r) (standing b)) ∙ rw (a.came (within k c) (rest_of r) v, g.came c e (v ∙ ap in_memory (sym a.memory)));
@@ -66,7 +66,6 @@ module _ (k : Scope) (d place : ℕ) (l : Tag) (s : Start) (r : Reader) (b t : S
     unfolding after
     held_got x g p = record {
       file = g.file;
-      kept = p.kept;
       memory = p.memory ∙ g.memory ∙ a.memory;
       came = λ c e v.
           let v' : c.uses ≡ in_memory (memory_lent t) = v ∙ ap in_memory (sym a.memory) in
@@ -94,7 +93,7 @@ named_all table (i ∷ is) t b = (lawful_at table i t b.0, named_all table is t 
 -- a list that was read
 pub record Listed (s : Start) : Type 0 where
   pub allowed : holder_ok s.holder ≡ true
-  pub plain : is_object s.holder ≡ false
+  pub named : Named (is_object s.holder) s.names
 
 pub list_got : (kind : ListKind) (size : ℕ) (q p : State) (s : Start) → list_start kind size q ≡ got s p → Listed s
 list_got kind size q p s h =
@@ -102,7 +101,7 @@ list_got kind size q p s h =
     let x = below_got _ _ _ _ _ q a.value a.at a.was in
     let b = came _ _ s p a.next in
     let e : s ≡ record { holder = OfList kind a.value; names = replicate b.value [] } = same_value _ s b.at p b.next in
-    rw e (record { allowed = lt-ltb a.value field_end x.0; plain = refl })
+    rw e (record { allowed = lt-ltb a.value field_end x.0; named = unnamed b.value })
 
 -- an object whose fields were read
 pub record Fielded (m : Memory) (e : Steps) (l : Tag) (f : Fields) : Type 0 where

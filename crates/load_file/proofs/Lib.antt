@@ -1,7 +1,6 @@
 pub mod Binds
 pub mod Chains
 pub mod Contents
-pub mod Fine
 pub mod Holding
 pub mod Objects
 pub mod Roots

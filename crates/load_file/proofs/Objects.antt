@@ -1,41 +1,23 @@
 -- Lists and objects from their headers on.
-use Rattle.std.proofs.Common.{◌≡◌, ℕ, Bool, true, false, List, None, Ok, Err, Option, Result, sym, ap, ◌∙◌, subst}
+use Rattle.std.proofs.Common.{◌≡◌, ℕ, Bool, true, Ok, Err, Result, sym, ◌∙◌}
 use Rattle.refusal.specs.declared.Refusal.{Refusal}
 use Rattle.steps.specs.declared.parts.ListKind.{ListKind}
-use Rattle.steps.specs.Steps.{Name, Tag}
+use Rattle.steps.specs.Steps.{Tag}
 use Rattle.steps.specs.Law.{has_room}
 use Rattle.document.specs.declared.store.Store.{Store}
-use Rattle.document.specs.Standing.{standing, memory_lent, Kept}
-use Rattle.redbin.specs.Reading.{Setting, Reads, after, bare, add_list, add_object, value, ◌>>=◌}
+use Rattle.document.specs.Standing.{standing, memory_lent}
+use Rattle.redbin.specs.Reading.{Setting, Reads, after, room, bare, add_list, add_object, value, ◌>>=◌}
 use Rattle.load.specs.declared.reader.Reader.{Reader}
 use Rattle.load.specs.Ran.{Did, DidIn, state, rest_of}
 use Rattle.load.specs.Filled.{Filled}
-use Rattle.load.proofs.Adding.{room_got}
-use Rattle.load.proofs.Sharing.{came_by}
+use Rattle.load.proofs.Then.{came_by}
 use Rattle.load_file.specs.declared.scope.Scope.{Scope}
-use Rattle.load_file.specs.declared.scope.Opening.{Opening}
 use Rattle.load_file.specs.declared.scope.Fields.{Fields}
-use Rattle.load_file.specs.Levels.{names_from, SymbolsAt}
-use Rattle.load_file.specs.Scopes.{within, Start, start_of, list_start, object_start, context_start, held}
-use Rattle.load_file.specs.Values.{Named}
+use Rattle.load_file.specs.Scopes.{within, Start, list_start, object_start, context_start, held}
 use Rattle.load_file.proofs.Binds.{list_by, object_by, context_by}
-use Rattle.load_file.proofs.Chains.{same_size, fill_then, fill_stop}
+use Rattle.load_file.proofs.Chains.{same_size}
+use Rattle.load.proofs.Filling.{field_fill, field_stop}
 use Rattle.load_file.proofs.Contents.{filled_by}
-use Rattle.load_file.proofs.Holding.{unnamed}
-
--- ---- lists: their values have no names
-
-pub none_named : (T : List Name) (F : List ℕ) (s : Option ℕ) (n : ℕ) → s ≡ None → Named false (names_from T F s n)
-none_named T F s n e = subst (λ (s : Option ℕ). Named false (names_from T F s n)) (sym e) (unnamed n)
-
-pub none_placed : (F : List ℕ) (s : Option ℕ) (n : ℕ) → s ≡ None → SymbolsAt F s n
-none_placed F s n e = subst (λ (s : Option ℕ). SymbolsAt F s n) (sym e) tt
-
-pub same_start : (T U : List Name) (F G : List ℕ) (o : Opening) → o.level.symbols ≡ None → start_of T F o ≡ start_of U G o
-same_start T U F G o e = ap (λ (ns : List Name). record { holder = o.holder; names = ns }) (alike o.level.symbols e)
-  where
-    alike : (s : Option ℕ) → s ≡ None → names_from T F s o.level.left ≡ names_from U G s o.level.left
-    alike s e = rw e
 
 module _ (k : Scope) (d place : ℕ) (l : Tag) (r s : Reader) (b : Store) where
   abbrev listed : ListKind → Setting → Reads (Unit {0})
@@ -44,14 +26,13 @@ module _ (k : Scope) (d place : ℕ) (l : Tag) (r s : Reader) (b : Store) where
   abbrev whole : Setting → Start → Reads (Unit {0})
   whole c = held (within k c) (value (within k c) d) place l
 
-  pub list_stop : (kind : ListKind) (w : Refusal) → Kept b → Did r (list_start kind) (Err w) s → Filled r b (listed kind) (Err w) s b
-  list_stop kind w kept g =
-      filled_by r s b b (listed kind) (λ c. list_start kind c.size >>= whole c) (Err w) (λ c q. list_by (within k c) (value (within k c) d) l place kind q) (fill_stop r s b (list_start kind) whole w kept g)
+  pub list_stop : (kind : ListKind) (w : Refusal) → Did r (list_start kind) (Err w) s → Filled r b (listed kind) (Err w) s b
+  list_stop kind w g =
+      filled_by r s b b (listed kind) (λ c. list_start kind c.size >>= whole c) (Err w) (λ c q. list_by (within k c) (value (within k c) d) l place kind q) (field_stop r s b (list_start kind) whole w g)
 
-  pub list_then : (kind : ListKind) (x y : Start) (q : Reader) (t : Store) (answer : Result (Unit {0}) Refusal) → Did r (list_start kind) (Ok x) s → y ≡ x → Filled s b (λ c. whole c y) answer q t → Filled r b (listed kind) answer q t
-  list_then kind x y q t answer g e f =
-      let f' : Filled s b (λ c. whole c x) answer q t = subst (λ (x : Start). Filled s b (λ c. whole c x) answer q t) e f in
-      filled_by r q b t (listed kind) (λ c. list_start kind c.size >>= whole c) answer (λ c p. list_by (within k c) (value (within k c) d) l place kind p) (fill_then r s b (list_start kind) whole q t x answer g f')
+  pub list_then : (kind : ListKind) (x : Start) (q : Reader) (t : Store) (answer : Result (Unit {0}) Refusal) → Did r (list_start kind) (Ok x) s → Filled s b (λ c. whole c x) answer q t → Filled r b (listed kind) answer q t
+  list_then kind x q t answer g f =
+      filled_by r q b t (listed kind) (λ c. list_start kind c.size >>= whole c) answer (λ c p. list_by (within k c) (value (within k c) d) l place kind p) (field_fill r s b (list_start kind) whole q t x answer g f)
 
   -- ---- objects
 
@@ -62,7 +43,6 @@ module _ (k : Scope) (d place : ℕ) (l : Tag) (r s : Reader) (b : Store) where
   unfolding after
   object_stop owner w g = record {
     file = g.file;
-    kept = g.kept;
     memory = g.memory;
     came = λ c e u. object_by (within k c) (value (within k c) d) l place owner (state (rest_of r) (standing b)) ∙ rw (g.came (within k c) e u);
   }
@@ -72,7 +52,6 @@ module _ (k : Scope) (d place : ℕ) (l : Tag) (r s : Reader) (b : Store) where
     unfolding after
     context_stop w h = record {
       file = h.file ∙ g.file;
-      kept = g.kept;
       memory = g.memory;
       came = λ c e u.
           object_by (within k c) (value (within k c) d) l place owner (state (rest_of r) (standing b))
@@ -81,13 +60,12 @@ module _ (k : Scope) (d place : ℕ) (l : Tag) (r s : Reader) (b : Store) where
 
     pub context_then : (x : Start) (q : Reader) (t : Store) (answer : Result (Unit {0}) Refusal) → has_room (memory_lent b) (standing b) (bare l.name) ≡ true
         → DidIn s (λ c. context_start f (within k c)) (Ok x) s₂ → Filled s₂ b (λ c. whole c x) answer q t → Filled r b (objected owner) answer q t
-    unfolding after
-    context_then x q t answer room h p = record {
+    unfolding after room
+    context_then x q t answer fits h p = record {
       file = p.file ∙ h.file ∙ g.file;
-      kept = p.kept;
       memory = p.memory;
       came = λ c e u.
-          let z : whole c x (state (rest_of s₂) (standing b)) ≡ _ = rw (room_got (within k c) (memory_lent b) u (rest_of s₂) (standing b) place (bare l.name) room) in
+          let z : whole c x (state (rest_of s₂) (standing b)) ≡ _ = rw (u, fits) in
           came_by (objected owner c) (whole c x) (rest_of r) (rest_of s₂) (rest_of q) (standing b) (standing b) (standing t) answer
           (object_by (within k c) (value (within k c) d) l place owner (state (rest_of r) (standing b))
           ∙ rw (g.came (within k c) e u) (context_by (within k c) (value (within k c) d) l f (state (rest_of s) (standing b)) ∙ rw (h.ran c (e ∙ sym (same_size r s g.file)) (standing b)) (sym z)))

@@ -7,87 +7,97 @@ use Rattle.steps.specs.Steps.{Steps, Name}
 use Rattle.steps.specs.Outline.{Opened, opened}
 use Rattle.steps.specs.Law.{Memory, name_ok}
 use Rattle.document.specs.declared.store.Store.{Store}
-use Rattle.document.specs.Standing.{standing, memory_lent, none_stands, Kept}
+use Rattle.document.specs.Standing.{standing, memory_lent, none_stands}
 use Rattle.redbin.specs.Layout.{flags_place, table_flag}
 use Rattle.redbin.specs.Reading.{Reader as State, Setting, Uses, Read, Reads, got, refused, because, after, refuse_when, word, each, value, records, symbol_table, return, start_of_file, whole_file, answer, read, load, in_memory, ◌>>◌}
-use Rattle.redbin.proofs.Table.{AllLawful as LawfulAll}
 use Rattle.redbin.proofs.Loaded.{table_got}
-use Rattle.load.specs.declared.reader.Reader.{Reader}
 use Rattle.load.specs.Ends.{payload_rest, nothing_left}
 use Rattle.load.specs.Ran.{state, size_of, rest_of}
-use Rattle.load.specs.Filled.{Came, Filled}
+use Rattle.load.specs.Filled.{Filled}
 use Rattle.load.proofs.Tabled.{after_after}
-use Rattle.load_file.specs.declared.scope.Scope.{Scope}
+use Rattle.load_file.specs.declared.loader.Loader.{Loader}
 use Rattle.load_file.specs.Files.{Comes, Untouched}
-use Rattle.load_file.specs.Scopes.{within, AllLawful}
-use Rattle.load_file.specs.Values.{Prepared}
+use Rattle.load_file.specs.Lawful.{AllLawful}
+use Rattle.load_file.specs.Scopes.{within}
+use Rattle.load_file.specs.Values.{Prepared, Read as LoaderRead}
 use Rattle.load_file.proofs.Chains.{same_size}
 use Rattle.load_file.proofs.Turns.{opened_kept}
 
 -- ---- the root values, one after another
 
 -- where the reading of n root values stands, i of them are read
-pub record Rooting (k : Scope) (r₀ : Reader) (b₀ : Store) (r : Reader) (depth : ℕ) (b : Store) (n i : ℕ) : Type 0 where
-  pub file : r.file ≡ r₀.file
+pub record Rooting (a z : Loader) (depth n i : ℕ) : Type 0 where
+  pub file : z.reader.file ≡ a.reader.file
   pub deep : depth ≡ 32
-  pub kept : Kept b
-  pub memory : memory_lent b ≡ memory_lent b₀
-  pub same : opened (standing b) ≡ opened (standing b₀)
+  pub lent : z.store.ghost_name ≡ a.store.ghost_name
+  pub scope : z.scope ≡ a.scope
+  pub memory : memory_lent z.store.now ≡ memory_lent a.store.now
+  pub same : opened (standing z.store.now) ≡ opened (standing a.store.now)
   pub came :
-      (c : Setting) → c.size ≡ size_of r₀ → c.uses ≡ in_memory (memory_lent b₀)
-      → each (value (within k c) 32) (replicate (n - i) []) (state (rest_of r) (standing b)) ≡ each (value (within k c) 32) (replicate n []) (state (rest_of r₀) (standing b₀))
+      (c : Setting) → c.size ≡ size_of a.reader → c.uses ≡ in_memory (memory_lent a.store.now)
+      → each (value (within a.scope c) 32) (replicate (n - i) []) (state (rest_of z.reader) (standing z.store.now)) ≡ each (value (within a.scope c) 32) (replicate n []) (state (rest_of a.reader) (standing a.store.now))
 
-pub root_start : (k : Scope) (r : Reader) (b : Store) (n : ℕ) → Kept b → Rooting k r b r 32 b n 0
-root_start k r b n kept =
+pub root_start : (a : Loader) (n : ℕ) → Rooting a a 32 n 0
+root_start a n =
     let z : n - 0 ≡ n = omega arith in
-    record { file = refl; deep = refl; kept = kept; memory = refl; same = refl; came = λ c q u. rw z }
+    record { file = refl; deep = refl; lent = refl; scope = refl; memory = refl; same = refl; came = λ c q u. rw z }
 
 empty_ok : (os : List Opened) → 32 + length os ≡ 32 → name_ok os [] ≡ true
 empty_ok [] h = refl
 empty_ok (o ∷ os) h = absurd (omega arith)
 
-module _ (k : Scope) (r₀ : Reader) (b₀ : Store) (p : Prepared k 32 b₀) (r : Reader) (depth : ℕ) (b : Store) (n i : ℕ) (inv : Rooting k r₀ b₀ r depth b n i) where
-  pub root_prepared : Prepared k depth b
-  root_prepared = record { kept = inv.kept; deep = rw (inv.deep, inv.same) p.deep; table = p.table }
+module _ (a z : Loader) (p : Prepared 32 a.store.now) (depth n i : ℕ) (inv : Rooting a z depth n i) where
+  pub root_prepared : Prepared depth z.store.now
+  root_prepared = rw (inv.deep, inv.same) p
 
-  pub root_named : name_ok (opened (standing b)) [] ≡ true
-  root_named = empty_ok (opened (standing b)) (rw inv.same p.deep)
+  pub root_named : name_ok (opened (standing z.store.now)) [] ≡ true
+  root_named = empty_ok (opened (standing z.store.now)) (rw inv.same p)
 
-  module _ (lt : i < n) (s : Reader) (t : Store) where
+  module _ (lt : i < n) (y : Loader) where
     one_more : replicate {A = Name} (n - i) [] ≡ [] ∷ replicate (n - (i + 1)) []
     one_more = let e : n - i ≡ suc (n - (i + 1)) = omega arith in ap (λ (j : ℕ). replicate {A = Name} j []) e
 
-    pub root_again : (d : ℕ) → d ≡ depth → Filled r b (λ c. value (within k c) depth []) (Ok tt) s t → Rooting k r₀ b₀ s d t n (i + 1)
-    unfolding each after
-    root_again d q g = record {
-      file = g.file ∙ inv.file;
-      deep = q ∙ inv.deep;
-      kept = g.kept;
-      memory = g.memory ∙ inv.memory;
-      same = opened_kept k depth [] r s b t root_prepared root_named g ∙ inv.same;
-      came = λ c e u.
-          let v : value (within k c) 32 [] (state (rest_of r) (standing b)) ≡ got tt (state (rest_of s) (standing t)) = rw inv.deep at (g.came c (e ∙ sym (same_size r₀ r inv.file)) (u ∙ ap in_memory (sym inv.memory))) in
-          rw (one_more, v) at (inv.came c e u);
-    }
+    one_read : (answer : Result (Unit {0}) Refusal) → LoaderRead (λ c. value c depth []) z answer y → Filled z.reader z.store.now (λ c. value (within a.scope c) 32 []) answer y.reader y.store.now
+    one_read answer g = rw (inv.scope, inv.deep) at g.filled
 
-    pub root_broke : (w : Refusal) → Filled r b (λ c. value (within k c) depth []) (Err w) s t → Filled r₀ b₀ (λ c. each (value (within k c) 32) (replicate n [])) (Err w) s t
+    pub root_again : (d : ℕ) → d ≡ depth → LoaderRead (λ c. value c depth []) z (Ok tt) y → Rooting a y d n (i + 1)
     unfolding each after
-    root_broke w g = record {
-      file = g.file ∙ inv.file;
-      kept = g.kept;
-      memory = g.memory ∙ inv.memory;
-      came = λ c e u.
-          let v : value (within k c) 32 [] (state (rest_of r) (standing b)) ≡ refused w = rw inv.deep at (g.came c (e ∙ sym (same_size r₀ r inv.file)) (u ∙ ap in_memory (sym inv.memory))) in
-          sym (rw (one_more, v) at (inv.came c e u));
-    }
+    root_again d q g =
+        let f = one_read (Ok tt) g in
+        record {
+          file = f.file ∙ inv.file;
+          deep = q ∙ inv.deep;
+          lent = g.lent ∙ inv.lent;
+          scope = g.scope ∙ inv.scope;
+          memory = f.memory ∙ inv.memory;
+          same = opened_kept a.scope a.lawful 32 [] z.reader y.reader z.store.now y.store.now (rw inv.same p) root_named f ∙ inv.same;
+          came = λ c e u. let v = f.came c (e ∙ sym (same_size a.reader z.reader inv.file)) (u ∙ ap in_memory (sym inv.memory)) in rw (one_more, v) at (inv.came c e u);
+        }
 
-  pub root_end : n ≤ i → Filled r₀ b₀ (λ c. each (value (within k c) 32) (replicate n [])) (Ok tt) r b
+    pub root_broke : (w : Refusal) → LoaderRead (λ c. value c depth []) z (Err w) y → LoaderRead (λ c. each (value c 32) (replicate n [])) a (Err w) y
+    unfolding each after
+    root_broke w g =
+        let f = one_read (Err w) g in
+        record {
+          filled = record {
+            file = f.file ∙ inv.file;
+            memory = f.memory ∙ inv.memory;
+            came = λ c e u. let v = f.came c (e ∙ sym (same_size a.reader z.reader inv.file)) (u ∙ ap in_memory (sym inv.memory)) in sym (rw (one_more, v) at (inv.came c e u));
+          };
+          lent = g.lent ∙ inv.lent;
+          scope = g.scope ∙ inv.scope;
+        }
+
+  pub root_end : n ≤ i → LoaderRead (λ c. each (value c 32) (replicate n [])) a (Ok tt) z
   unfolding each
   root_end le = record {
-    file = inv.file;
-    kept = inv.kept;
-    memory = inv.memory;
-    came = λ c e u. let z : n - i ≡ 0 = omega arith in sym (rw z at (inv.came c e u));
+    filled = record {
+      file = inv.file;
+      memory = inv.memory;
+      came = λ c e u. let z : n - i ≡ 0 = omega arith in sym (rw z at (inv.came c e u));
+    };
+    lent = inv.lent;
+    scope = inv.scope;
   }
 
 -- ---- the payload
@@ -99,12 +109,8 @@ records_by c n q =
 
 -- ---- the whole file
 
-all_lawful : (ns : List Name) → LawfulAll ns → AllLawful ns
-all_lawful [] h = tt
-all_lawful (n ∷ ns) h = (h.0, all_lawful ns h.1)
-
 pub table_lawful : (b : Bool) (size : ℕ) (q p : State) (ns : List Name) → cond b (symbol_table size) (return []) q ≡ got ns p → AllLawful ns
-table_lawful b size q p ns h = all_lawful ns (table_got b size q ns p h).0
+table_lawful b size q p ns h = (table_got b size q ns p h).0
 
 module _ (k : Uses) (file x₁ : List ℕ) (e : Steps) where
   abbrev whole : Read (Unit {0})
@@ -140,27 +146,21 @@ pub read_refused : (k : Uses) (file : List ℕ) (w : Refusal) → whole_file k f
 unfolding read
 read_refused k file w h = ap answer h
 
-pub read_got : (k : Uses) (file x : List ℕ) (e : Steps) → whole_file k file (state file []) ≡ got tt (state x e) → read k file ≡ Ok e
-unfolding read
-read_got k file x e h = ap answer h
-
 -- what the records come to, the file does
-pub comes_by : (k : Uses) (file x y : List ℕ) (c : Setting) (n : ℕ) (d f : Steps) (result : Result (Unit {0}) Refusal) → d ≡ [] → whole_file k file (state file []) ≡ records c n (state x []) → Came (records c n) x d result y f → Comes (read k file) result f
-comes_by k file x y c n d f result e h g = go result (subst (λ (d : Steps). Came (records c n) x d result y f) e g)
-  where
-    go : (result : Result (Unit {0}) Refusal) → Came (records c n) x [] result y f → Comes (read k file) result f
-    go (Ok u) g = read_got k file y f (h ∙ g)
-    go (Err w) g = read_refused k file w (h ∙ g)
+pub comes_by : (k : Uses) (file x : List ℕ) (c : Setting) (n : ℕ) (d f : Steps) (result : Result (Unit {0}) Refusal) → d ≡ [] → whole_file k file (state file []) ≡ records c n (state x []) → Comes (answer (records c n (state x d))) result f → Comes (read k file) result f
+unfolding read
+comes_by k file x c n d f result e h g =
+    subst (λ (y : Result Steps Refusal). Comes y result f) (sym (ap answer h)) (subst (λ (d : Steps). Comes (answer (records c n (state x d))) result f) e g)
 
 -- ---- load
 
 pub some_stand : (m : Memory) (e : Steps) (file : List ℕ) → none_stands e ≡ false → load m e file ≡ Err (because StepsStand Draft 0)
 some_stand m (s ∷ e) file h = refl
-some_stand m [] file h = let z : ◌≡◌ {A = ℕ} 0 1 = cc in absurd (omega arith)
+some_stand m [] file h = absurd cc
 
 pub none_stand : (e : Steps) → none_stands e ≡ true → e ≡ []
 none_stand [] h = refl
-none_stand (s ∷ e) h = let z : ◌≡◌ {A = ℕ} 0 1 = cc in absurd (omega arith)
+none_stand (s ∷ e) h = absurd cc
 
 pub untouched : (e : Steps) (s : Store) → Untouched e s s
 untouched [] s = tt

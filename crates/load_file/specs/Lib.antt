@@ -1,4 +1,5 @@
 pub mod Files
+pub mod Lawful
 pub mod Levels
 pub mod Scopes
 pub mod Values

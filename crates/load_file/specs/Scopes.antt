@@ -1,11 +1,10 @@
 -- The setting of a file's records, and how lists and objects start.
-use Rattle.std.specs.Prelude.{◌≡◌, ℕ, Bool, true, List, [], ◌∷◌, length, replicate}
+use Rattle.std.specs.Prelude.{ℕ, Bool, List, [], length, replicate}
 use Rattle.refusal.specs.declared.Reason.TheVariants.{BadIndex}
 use Rattle.refusal.specs.declared.Part.TheVariants.{Record}
 use Rattle.steps.specs.declared.parts.Holder.{Holder}
 use Rattle.steps.specs.declared.parts.Holder.TheVariants.{List as OfList, Object as OfObject}
 use Rattle.steps.specs.declared.parts.ListKind.{ListKind}
-use Rattle.steps.specs.Utf8.{lawful_name}
 use Rattle.steps.specs.Steps.{Name, Tag}
 use Rattle.redbin.specs.Reading.{Setting, Reads, word, any_word, run, room, bare, hold, named_by, return, ◌>>=◌, ◌>>◌}
 use Rattle.load.specs.Holders.{context}
@@ -19,11 +18,6 @@ use Rattle.load_file.specs.Levels.{names_left}
 abbrev pub within : Scope → Setting → Setting
 within k c = record { size = c.size; uses = c.uses; table = table_of k.symbols; payload = k.payload }
 
--- every name is lawful
-abbrev pub AllLawful : List Name → Type 0
-AllLawful [] = Unit {0}
-AllLawful (n ∷ ns) = (lawful_name n ≡ true) × AllLawful ns
-
 -- ---- how lists and objects start
 
 -- a list or an object, and the names of its values
@@ -32,8 +26,8 @@ pub record Start : Type 0 where
   pub names : List Name
 
 -- the start that is read from a file with these symbols
-abbrev pub start_of : List Name → List ℕ → Opening → Start
-start_of table file o = record { holder = o.holder; names = names_left table file o.level }
+abbrev pub start_of : List Name → Opening → Start
+start_of table o = record { holder = o.holder; names = names_left table o.level }
 
 -- a list's head and length
 abbrev pub list_start : ListKind → ℕ → Reads Start

@@ -11,9 +11,9 @@ pub struct Scope<'f> {
 
 // A list or an object whose values are to be read.
 #[derive(Clone, Copy)]
-pub struct Opening {
+pub struct Opening<'f> {
     pub holder: Holder,
-    pub level: LevelRecord,
+    pub level: LevelRecord<'f>,
 }
 
 // The fields of an object that stand before its context.

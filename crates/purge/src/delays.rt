@@ -1,20 +1,28 @@
-ghost use Rattle.std.specs.Prelude.{◌<◌, length, IfSome, IfOk};
+ghost use Rattle.std.specs.Prelude.{◌≡◌, ◌<◌, true, length, IfSome, IfOk};
+ghost use Rattle.listing.specs.Pairs.{pair_of, good};
 ghost use Rattle.purge.specs.Entries.{Listable};
 
 use listing::pairs::{Entry, is_good};
-use std::alloc::{AllocError, Global};
+use std::alloc::{AllocError, AllocFailed, Global};
 use std::fmt;
 
 // How many lines are read at most.
 pub const MOST: usize = 16_384;
 
-// What is wrong with the first malformed line, the lines counted from 1.
+// Why no entries are read: what is wrong with the first malformed line, the lines counted from 1, or no memory.
 #[derive(Clone, Copy, Debug, PartialEq, Eq)]
 pub enum Fault {
     NoPair { line: usize },
     BadPair { line: usize },
     Repeated { line: usize, first: usize },
     TooMany,
+    Memory(AllocError),
+}
+
+impl<T: Drop> From<AllocFailed<T>> for Fault {
+    fn from(failed: AllocFailed<T>) -> Fault {
+        Fault::Memory(AllocError::from(failed))
+    }
 }
 
 impl fmt::Display for Fault {
@@ -28,7 +36,8 @@ impl fmt::Display for Fault {
             Fault::Repeated { line, first } => {
                 write!(f, "line {line}: the name stands in line {first} already")
             }
-            Fault::TooMany => write!(f, "more than 16384 lines"),
+            Fault::TooMany => write!(f, "more than {MOST} lines"),
+            Fault::Memory(failure) => write!(f, "{failure}"),
         }
     }
 }
@@ -36,48 +45,49 @@ impl fmt::Display for Fault {
 // A line's name and delay, which one space parts.
 fn read_line(line: &str) -> Option<Entry<'_>> {
     let (name, delay) = line.split_once(' ')?;
-    match delay.parse::<i32>() {
-        Ok(delay) => Some(Entry {
-            name: name.as_bytes(),
-            delay,
-        }),
-        Err(_) => None,
-    }
+    Some(Entry {
+        name: name.as_bytes(),
+        delay: delay.parse().ok()?,
+    })
 }
 
 // The place of the entry that has this name, if there is one.
 fn place_of(name: &[u8], entries: &[Entry]) -> Option<usize>
     ensures { IfSome result (λ i. i < length entries.now) }
 {
-    for (i, entry) in entries.iter().enumerate() {
-        if entry.name == name {
-            return Some(i);
-        }
+    entries.iter().position(|entry| entry.name == name)
+}
+
+// The entry of a line, behind those of the lines before it, or what is wrong with the line.
+fn next_entry<'t>(words: &'t str, before: &[Entry]) -> Result<Entry<'t>, Fault>
+    ensures room { IfOk result (λ e. length before.now < MOST) }
+    ensures good { IfOk result (λ e. good (pair_of e) ≡ true) }
+{
+    if before.len() >= MOST {
+        return Err(Fault::TooMany);
     }
-    None
+    let line = before.len() + 1;
+    let entry = read_line(words).ok_or(Fault::NoPair { line })?;
+    if !is_good(&entry) {
+        return Err(Fault::BadPair { line });
+    }
+    match place_of(entry.name, before) {
+        Some(place) => Err(Fault::Repeated {
+            line,
+            first: place + 1,
+        }),
+        None => Ok(entry),
+    }
 }
 
 // The entries of a text of lines, or what is wrong with it.
-pub fn read_entries(heap: Global, text: &str) -> Result<Result<Vec<Entry<'_>>, Fault>, AllocError>
-    ensures { IfOk result (λ q. IfOk q (λ v. Listable v.items)) }
+pub fn read_entries(heap: Global, text: &str) -> Result<Vec<Entry<'_>>, Fault>
+    ensures { IfOk result (λ v. Listable v.items) }
 {
     let mut entries = Vec::new(heap);
     for words in text.lines() {
-        if entries.len() >= MOST {
-            return Ok(Err(Fault::TooMany));
-        }
-        let line = entries.len() + 1;
-        let Some(entry) = read_line(words) else {
-            return Ok(Err(Fault::NoPair { line }));
-        };
-        if !is_good(entry.name, entry.delay) {
-            return Ok(Err(Fault::BadPair { line }));
-        }
-        if let Some(before) = place_of(entry.name, entries.as_slice()) {
-            let first = before + 1;
-            return Ok(Err(Fault::Repeated { line, first }));
-        }
+        let entry = next_entry(words, entries.as_slice())?;
         entries.push(entry)?;
     }
-    Ok(Ok(entries))
+    Ok(entries)
 }

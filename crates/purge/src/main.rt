@@ -40,8 +40,9 @@ fn print_both(rt: &HostRuntime, entries: &[Entry]) -> anyhow::Result<ExitCode> {
 
 fn run(rt: &HostRuntime) -> anyhow::Result<ExitCode> {
     let text = io::read_to_string(rt.alloc(), rt.stdin())?;
-    match read_entries(rt.alloc(), text.as_str())? {
+    match read_entries(rt.alloc(), text.as_str()) {
         Ok(entries) => print_both(rt, entries.as_slice()),
+        Err(Fault::Memory(failure)) => Err(failure.into()),
         Err(fault) => {
             println!(rt; "{fault}")?;
             Ok(ExitCode::FAILURE)

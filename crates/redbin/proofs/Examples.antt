@@ -1,14 +1,14 @@
 -- The worked examples, computed.
 use Rattle.std.proofs.Common.{refl, lit<}
 use Rattle.steps.specs.Outline.{inner, inner_names, begun_at, nth, walk, path_of}
-use Rattle.redbin.specs.Bytes.{bytes_of, number, fields, all_below, same}
-use Rattle.redbin.specs.Canonical.{unit, index_of, without, once, written_names, symbols, record_of, strings, offsets, canonical}
+use Rattle.redbin.specs.Bytes.{bytes_of, number, fields}
+use Rattle.redbin.specs.Canonical.{narrowest, index_of, without, once, written_names, symbols, record_of, strings, offsets, canonical}
 use Rattle.redbin.specs.Reading.{after, refuse_when, skip, push, here, enough, below, series, run, announced, named_by, heading_of, behind_padding, heading, room, target, add_share, add_text, on_boundary, add_float, each, hold, add_list, add_context, add_object, content, value, until_zero, name_or_refuse, names_at, symbol_table, start_of_file, records, whole_file, read}
 use Rattle.redbin.specs.Examples.{Examples}
 use Rattle.redbin.proofs.Long.{too_long, just_fits, wrong_version, wrong_flags}
 
 pub examples : Examples
-unfolding inner inner_names begun_at nth walk path_of bytes_of number fields all_below same unit index_of without once written_names symbols record_of strings offsets canonical after refuse_when skip push here enough below series run announced named_by heading_of behind_padding heading room target add_share add_text on_boundary add_float each hold add_list add_context add_object content value until_zero name_or_refuse names_at symbol_table start_of_file records whole_file read
+unfolding inner inner_names begun_at nth walk path_of bytes_of number fields narrowest index_of without once written_names symbols record_of strings offsets canonical after refuse_when skip push here enough below series run announced named_by heading_of behind_padding heading room target add_share add_text on_boundary add_float each hold add_list add_context add_object content value until_zero name_or_refuse names_at symbol_table start_of_file records whole_file read
 examples = (
   refl,
   refl,

@@ -3,10 +3,12 @@ use Rattle.std.proofs.Common.{◌≡◌, ℕ, zero, suc, ◌*◌, ◌/◌, ◌^�
 use Rattle.std.proofs.lemmas.List.{take_at, drop_at}
 use Rattle.std.proofs.lemmas.Bool.{le-ltb, lt-ltb}
 use Rattle.steps.specs.Steps.{Steps}
+use Rattle.std.specs.List.{AllByRecursion as Each}
 use Rattle.redbin.specs.Bytes.{bytes_of, number, fields}
-use Rattle.redbin.specs.Reading.{Reader, Read, Reads, got, after, refuse_when, enough, below, series, run}
+use Rattle.redbin.specs.Reading.{Reader, Read, Reads, got, refused, after, refuse_when, enough, below, series, run}
 use Rattle.refusal.specs.declared.Part.{Part}
 use Rattle.refusal.specs.declared.Reason.{Reason}
+use Rattle.refusal.specs.declared.Refusal.{Refusal}
 
 abbrev pub rd : List ℕ → Steps → Reader
 rd bs e = record { rest = bs; steps = e }
@@ -26,6 +28,10 @@ length_bytes (suc k) n = ap suc (length_bytes k (n / 256))
 pub then : {A B : Type 0} {x : Read A} (k : A → Reads B) {a : A} {r : Reader} {z : Read B} → x ≡ got a r → k a r ≡ z → after x k ≡ z
 unfolding after
 then k p q = rw p q
+
+pub stop : {A B : Type 0} {x : Read A} (k : A → Reads B) {w : Refusal} → x ≡ refused w → after x k ≡ refused w
+unfolding after
+stop k p = rw p
 
 pub below_reads : (size : ℕ) (part : Part) (unit limit : ℕ) (why : Reason) (n : ℕ) (more : List ℕ) (e : Steps)
     → n < 256 ^ unit → n < limit → below size part unit limit why (rd (bytes_of unit n ++ more) e) ≡ got n (rd more e)
@@ -47,8 +53,7 @@ field_reads size part unit limit why n ns more e fits low =
 
 -- all numbers are below a limit
 abbrev pub Below : ℕ → List ℕ → Type 0
-Below limit [] = Unit {0}
-Below limit (n ∷ ns) = (n < limit) × Below limit ns
+Below limit ns = Each (λ n. n < limit) ns
 
 pub series_reads : (size : ℕ) (part : Part) (unit limit : ℕ) (why : Reason) (ns : List ℕ) (more : List ℕ) (e : Steps)
     → Below (256 ^ unit) ns → Below limit ns → series size part unit limit why (length ns) (rd (fields unit ns ++ more) e) ≡ got ns (rd more e)

@@ -13,7 +13,7 @@ use Rattle.redbin.proofs.Records.{reads_whole, inner_names_length}
 use Rattle.redbin.proofs.Shares.{count_small}
 use Rattle.redbin.proofs.Table.{symbols_lawful, offsets_length, table_reads}
 use Rattle.redbin.proofs.Whole.{Whole, names, bytes, whole_payload, whole_names, allowed}
-use Rattle.redbin.specs.Bytes.{words, same}
+use Rattle.redbin.specs.Bytes.{words}
 use Rattle.redbin.specs.Canonical.{symbols, table, flags_for, payload, canonical, offsets, strings}
 use Rattle.redbin.specs.Layout.{largest_file, letters}
 use Rattle.redbin.specs.Reading.{got, skip, each, value, start_of_file, records, whole_file, answer, read, load}
@@ -44,7 +44,7 @@ roots w = whole_names w
 
 pub start_reads : (flag : ℕ) (more : List ℕ) → not (eqb flag 0 || eqb flag 4) ≡ false → 8 ≤ length more → length (letters ++ (2 ∷ flag ∷ more)) ≤ largest_file
     → start_of_file (letters ++ (2 ∷ flag ∷ more)) (rd (letters ++ (2 ∷ flag ∷ more)) []) ≡ got tt (rd more [])
-unfolding start_of_file skip same
+unfolding start_of_file skip
 start_reads flag more f l small =
     then _ (refuse_passes _ _ _ _ _ (or_from _ _ (le-ltb (length (letters ++ (2 ∷ flag ∷ more))) 16 (omega arith)) refl))
     (then _ (refuse_passes _ _ _ _ _ refl)

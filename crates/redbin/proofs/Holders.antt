@@ -35,7 +35,7 @@ unfolding value content add_list record_of
 list_reads c d all place l k h bytes more e e' ok r s inside =
     let n = length (inner_names all (At (length (values e)))) in
     let q = ltb-true h field_end ok in
-    then _ (heading_reads c (is_list k) l.new_line (h ∷ n ∷ []) bytes e tt)
+    then _ (heading_reads c (is_list k) l.new_line (h ∷ n ∷ []) bytes e)
     (then _ (field_reads c.size Record 4 field_end Large h (n ∷ []) bytes e (omega arith) q)
     (then _ (field_last c.size Record 4 field_end Large n bytes e (omega arith) s)
     (then _ (room_reads c _ (bare l.name) bytes e r)
@@ -80,7 +80,7 @@ object_reads size m pay d all place l w s k t a bytes more e e' ok r small few a
     let b = indexes_below (symbols all) names among in
     let run_is : run size Record 4 (length (symbols all)) BadIndex n (rd (words is ++ bytes) e) ≡ got is (rd bytes e) =
     rw (length-map names (index_of (symbols all))) at (run_reads size Record 4 (length (symbols all)) BadIndex is bytes e (below_more _ (256 ^ 4) is few b) b) in
-    then _ (heading_reads c (is_object w) l.new_line (k ∷ t ∷ a ∷ context_header s ∷ n ∷ is) bytes e tt)
+    then _ (heading_reads c (is_object w) l.new_line (k ∷ t ∷ a ∷ context_header s ∷ n ∷ is) bytes e)
     (then _ (field_reads size Record 4 field_end Large k (t ∷ a ∷ context_header s ∷ n ∷ is) bytes e (omega arith) k_low)
     (then _ (field_reads size Record 4 word_end Large t (a ∷ context_header s ∷ n ∷ is) bytes e t_low t_low)
     (then _ (field_reads size Record 4 field_end Large a (context_header s ∷ n ∷ is) bytes e (omega arith) a_low)

@@ -1,3 +1,4 @@
+mod Lists
 pub mod Drafted
 pub mod Fields
 pub mod Headings
@@ -15,7 +16,6 @@ pub mod Got
 pub mod Kept
 pub mod Loaded
 pub mod Elsewhere
-pub mod Loops
 pub mod Meant
 pub mod Roomy
 mod Long

@@ -7,12 +7,11 @@ use Rattle.refusal.specs.declared.Reason.TheVariants.{Large}
 use Rattle.refusal.specs.declared.Part.{Part}
 use Rattle.refusal.specs.declared.Part.TheVariants.{Header}
 use Rattle.steps.specs.Law.{field_end}
-use Rattle.redbin.specs.Bytes.{words, same}
+use Rattle.redbin.specs.Bytes.{words}
 use Rattle.redbin.specs.Layout.{largest_file}
 use Rattle.redbin.specs.Reading.{Reader, refused, because, refuse_when, start_of_file, records, whole_file, answer, read}
 use Rattle.redbin.specs.Examples.{refuses, outcome, gives, long}
-use Rattle.redbin.proofs.Fields.{then, refuse_passes, field_reads, field_last, length_fields}
-use Rattle.redbin.proofs.Loops.{stop}
+use Rattle.redbin.proofs.Fields.{stop, then, refuse_passes, field_reads, field_last, length_fields}
 use Rattle.redbin.proofs.File.{start_reads}
 
 refuse_stops : (b : Bool) (why : Reason) (part : Part) (place : ℕ) (r : Reader) → b ≡ true → refuse_when b why part place r ≡ refused (because why part place)
@@ -26,7 +25,7 @@ is_redbin : (v f n : ℕ) → (ltb (length (long v f n)) 16 || false) ≡ false
 is_redbin v f n = or_from _ _ (le-ltb (length (long v f n)) 16 (omega (arith, long_length v f n))) refl
 
 pub too_long : (n : ℕ) → 1048560 < n → gives (long 2 0 n) ≡ refuses 5 Header 0
-unfolding read whole_file start_of_file same
+unfolding read whole_file start_of_file
 too_long n h =
     ap (λ x. outcome (answer x))
     (stop _
@@ -36,12 +35,12 @@ too_long n h =
     (stop _ (refuse_stops _ _ _ _ _ (lt-ltb largest_file _ (omega (arith, long_length 2 0 n)))))))))
 
 pub wrong_version : (n : ℕ) → gives (long 1 0 n) ≡ refuses 2 Header 6
-unfolding read whole_file start_of_file same
+unfolding read whole_file start_of_file
 wrong_version n =
     ap (λ x. outcome (answer x)) (stop _ (then _ (refuse_passes _ _ _ _ _ (is_redbin 1 0 n)) (stop _ (refuse_stops _ _ _ _ _ refl))))
 
 pub wrong_flags : (n : ℕ) → gives (long 2 1 n) ≡ refuses 3 Header 7
-unfolding read whole_file start_of_file same
+unfolding read whole_file start_of_file
 wrong_flags n =
     ap (λ x. outcome (answer x))
     (stop _ (then _ (refuse_passes _ _ _ _ _ (is_redbin 2 1 n)) (then _ (refuse_passes _ _ _ _ _ refl) (stop _ (refuse_stops _ _ _ _ _ refl)))))

@@ -1,5 +1,5 @@
 -- Reading into a memory answers what reading without a limit does, but where a value finds no room.
-use Rattle.std.proofs.Common.{◌≡◌, ℕ, zero, suc, Bool, true, false, cond, ◌⊎◌, List, [], ◌∷◌, length, replicate, Ok, Err, sym, refl, ap, ◌∙◌, inl, inr, ⊎_elim, arith}
+use Rattle.std.proofs.Common.{◌≡◌, ℕ, zero, suc, Bool, true, false, cond, ◌⊎◌, List, [], ◌∷◌, length, replicate, Ok, Err, sym, refl, ap, ◌∙◌, inl, inr, ⊎_elim}
 use Rattle.steps.specs.declared.parts.ListKind.{ListKind}
 use Rattle.steps.specs.declared.parts.TextKind.{TextKind}
 use Rattle.steps.specs.declared.parts.Holder.{Holder}
@@ -8,14 +8,14 @@ use Rattle.steps.specs.declared.parts.Share.{Share}
 use Rattle.steps.specs.Steps.{Name, Tag, Content, none, logic, char, integer, float, text, put, close}
 use Rattle.steps.specs.Outline.{share_family}
 use Rattle.steps.specs.Law.{Memory, need, has_room, deepest}
-use Rattle.redbin.proofs.Loops.{stop}
 use Rattle.refusal.specs.declared.Reason.TheVariants.{NoMemory}
 use Rattle.refusal.specs.declared.Part.TheVariants.{Record}
 use Rattle.redbin.specs.declared.form.Form.{Form}
+use Rattle.redbin.specs.Layout.{width}
 use Rattle.redbin.specs.declared.form.Form.TheVariants.{Nothing as is_none, Logic as is_logic, Char as is_char, Integer as is_integer, Float as is_float, Text as is_text, List as is_list, Object as is_object, ShareText as shares_text, ShareList as shares_list, ShareObject as shares_object}
 use Rattle.redbin.specs.Reading.{answer, load, because, steps_or_none, Reader, Read, Reads, got, refused, after, in_memory, unlimited, push, Setting, each, hold, bare, heading_of, behind_padding, heading, room, add, target, add_share, add_text, on_boundary, add_float, add_list, add_context, add_object, content, value, records, whole_file, read, signed, is_nonzero}
 use Rattle.redbin.specs.Promises.{MemoryDecidesRoomAlone, LoadGivesFileSteps}
-use Rattle.redbin.proofs.Fields.{then}
+use Rattle.redbin.proofs.Fields.{stop, then}
 
 -- the reading found no room for a value
 abbrev NoRoom : {A : Type 0} → Read A → Type 0
@@ -115,7 +115,7 @@ module _ (m : Memory) (size : ℕ) (table : List Name) (payload : ℕ) where
     content_onward start l is_char = seq same (λ n. add_onward start l (char n))
     content_onward start l is_integer = seq same (λ n. add_onward start l (integer (signed n)))
     content_onward start l is_float = float_onward start l
-    content_onward start l (is_text k u) = text_onward start l k u
+    content_onward start l (is_text k u) = text_onward start l k (width u)
     content_onward start l (is_list k) = list_onward start l k
     content_onward start l (is_object w) = object_onward start l w
     content_onward start l (shares_text k) = seq same (λ n. share_onward start l _)
@@ -141,11 +141,10 @@ unfolding read
 decides_room_alone m bytes = ⊎_elim (λ e. inl (ap answer e)) (λ z. inr (z.0, ap answer z.1)) ((file_onward m bytes).onward (record { rest = bytes; steps = [] }))
 
 pub gives_file_steps : LoadGivesFileSteps
-gives_file_steps m (s ∷ before) bytes e h = let z : ◌≡◌ {A = ℕ} 0 1 = cc in absurd (omega arith)
+gives_file_steps m (s ∷ before) bytes e h = absurd cc
 gives_file_steps m [] bytes e h = ⊎_elim (λ p. (refl, ap steps_or_none (sym h ∙ p))) (λ z. absurd (refused_not z.0 z.1)) (decides_room_alone m bytes)
   where
     refused_not : (place : ℕ) → load m [] bytes ≡ Err (because NoMemory Record place) → ⊥
     refused_not place q =
         let p : Ok e ≡ Err (because NoMemory Record place) = sym h ∙ q in
-        let z : ◌≡◌ {A = ℕ} 0 1 = cc in
-        absurd (omega arith)
+        absurd cc

@@ -1,5 +1,5 @@
 -- The steps on the way to a whole document: what they share with it.
-use Rattle.std.proofs.Common.{◌≡◌, ℕ, suc, ◌<◌, ◌≤◌, true, false, eqb, List, [], ◌∷◌, ◌++◌, length, replicate, Some, None, refl, ap, ◌∙◌, append-nil, arith}
+use Rattle.std.proofs.Common.{◌≡◌, ℕ, suc, ◌<◌, ◌≤◌, true, false, List, [], ◌∷◌, length, replicate, Some, None, refl, ap, ◌∙◌, append-nil, arith}
 use mathlib.Core.List.{tail}
 use Rattle.std.proofs.lemmas.List.{nil_from_length}
 use Rattle.std.proofs.lemmas.Bool.{ne_eqb, eqb-true}
@@ -9,6 +9,8 @@ use Rattle.steps.specs.Steps.{Steps, Step, Name, Tag, Begun, begin, close, put, 
 use Rattle.steps.specs.declared.parts.Holder.{Holder}
 use Rattle.steps.specs.declared.parts.Node.TheVariants.{At, Root}
 use Rattle.steps.specs.declared.parts.Node.{Node}
+use Rattle.std.specs.List.{AllByRecursion as Each}
+use Rattle.redbin.proofs.Lists.{all_append, all_weaker}
 use Rattle.redbin.proofs.Paths.{Held, Sound, AllHeld, outline_sound}
 use Rattle.redbin.proofs.Whole.{Whole, nothing, a_put, a_share, a_holder, names, whole_opened, whole_count, whole_names, allowed}
 use Rattle.refusal.specs.declared.Reason.TheVariants.{NothingThere}
@@ -19,8 +21,7 @@ pub data Within (ys : List Entry) : List Entry → Type 0 where
   later : {x : Entry} {xs : List Entry} → Within ys xs → Within ys (x ∷ xs)
 
 abbrev pub Absent : ℕ → List Opened → Type 0
-Absent n [] = Unit {0}
-Absent n (o ∷ os) = (o.number ≡ n → ⊥) × Absent n os
+Absent n os = Each (λ o. o.number ≡ n → ⊥) os
 
 -- the document `all` gives a value that is closed nothing more to hold
 abbrev pub Settled : List Entry → Steps → Type 0
@@ -75,8 +76,7 @@ pub part_whole : (m : Memory) (e : Steps) → Lawful m e → PartOf m (values e)
 part_whole m e l = record { lawful = l; settled = λ n h a. refl; within = all_of }
 
 absent_held : (xs : List Entry) (os : List Opened) → AllHeld xs os → Absent (length xs) os
-absent_held xs [] h = tt
-absent_held xs (o ∷ os) h = ((λ z. omega (arith, h.0.0)), absent_held xs os h.1)
+absent_held xs os h = all_weaker _ _ (λ o p z. omega (arith, p.0)) os h
 
 fresh_names : (xs : List Entry) (n : ℕ) → Sound xs → length xs ≤ suc n → inner_names xs (At n) ≡ []
 unfolding inner_names
@@ -117,8 +117,7 @@ close_nested : (m : Memory) {e : Steps} → Nested e → refusal m e close ≡ N
 close_nested m {e} (ground w) r =
     let o : opened e ≡ [] = whole_opened w in
     let q : Some NothingThere ≡ None = rw o at r in
-    let z : ◌≡◌ {A = ℕ} 0 1 = cc in
-    absurd (omega arith)
+    absurd cc
 close_nested m (under l h n w) r = more_whole n (a_holder l h nothing w)
 
 pub nested : (m : Memory) (e : Steps) → Lawful m e → Nested e
@@ -132,27 +131,7 @@ pub closed_whole : (m : Memory) {e : Steps} → Nested e → Closed e → Whole 
 closed_whole m (ground w) c = w
 closed_whole m (under {e = e} l h n w) c =
     let o = whole_opened w in
-    let z : ◌≡◌ {A = ℕ} 0 1 = cc in
-    absurd (omega arith)
-
--- names outside objects are empty
-abbrev EmptyAll : List Name → Type 0
-EmptyAll [] = Unit {0}
-EmptyAll (n ∷ ns) = (n ≡ []) × EmptyAll ns
-
-empty_append : (ns ms : List Name) → EmptyAll ns → EmptyAll ms → EmptyAll (ns ++ ms)
-empty_append [] ms p q = q
-empty_append (n ∷ ns) ms p q = (p.0, empty_append ns ms p.1 q)
-
-empty_replicate : (ns : List Name) → EmptyAll ns → ns ≡ replicate (length ns) []
-empty_replicate [] p = refl
-empty_replicate (n ∷ ns) p = rw p.0 (ap {B = List Name} (λ r. [] ∷ r) (empty_replicate ns p.1))
-
-empty_name : (os os' : List Opened) (n : Name) → os ≡ os' → in_object os' ≡ false → name_ok os n ≡ true → n ≡ []
-empty_name os os' n e f h =
-    let g : in_object os ≡ false = rw e f in
-    let k : eqb (length n) 0 ≡ true = rw g at h in
-    nil_from_length n (eqb-true (length n) 0 k)
+    absurd cc
 
 pub start_lawful : (m : Memory) {s e : Steps} → Whole s e → Lawful m e → Lawful m s
 start_lawful m nothing t = t
@@ -160,15 +139,24 @@ start_lawful m (a_put l v w) t = start_lawful m w t.0
 start_lawful m (a_share l h k w) t = start_lawful m w t.0
 start_lawful m (a_holder l h w v) t = start_lawful m w (start_lawful m v t.0).0
 
-empty_names : (m : Memory) {s e : Steps} (w : Whole s e) → Lawful m e → in_object (opened s) ≡ false → EmptyAll (names w)
-empty_names m nothing t f = tt
-empty_names m {s} (a_put {e = e} l v w) t f =
-    empty_append (names w) (l.name ∷ []) (empty_names m w t.0 f) (empty_name (opened e) (opened s) l.name (whole_opened w) f (allowed m e l (put v) t.1).name, tt)
-empty_names m {s} (a_share {e = e} l h k w) t f =
-    empty_append (names w) (l.name ∷ []) (empty_names m w t.0 f) (empty_name (opened e) (opened s) l.name (whole_opened w) f (allowed m e l (share h k) t.1).name, tt)
-empty_names m {s} (a_holder {e = e} l h w v) t f =
+-- what the law says of a name where these values are begun holds of each of their names
+pub names_all : (m : Memory) (P : Name → Type 0) {s e : Steps} (w : Whole s e) → Lawful m e → ((n : Name) → name_ok (opened s) n ≡ true → P n) → Each P (names w)
+names_all m P nothing t f = tt
+names_all m P (a_put {e = e} l v w) t f =
+    all_append P (names w) (l.name ∷ []) (names_all m P w t.0 f) (f l.name (rw (whole_opened w) at (allowed m e l (put v) t.1).name), tt)
+names_all m P (a_share {e = e} l h k w) t f =
+    all_append P (names w) (l.name ∷ []) (names_all m P w t.0 f) (f l.name (rw (whole_opened w) at (allowed m e l (share h k) t.1).name), tt)
+names_all m P (a_holder {e = e} l h w v) t f =
     let u = start_lawful m v t.0 in
-    empty_append (names w) (l.name ∷ []) (empty_names m w u.0 f) (empty_name (opened e) (opened s) l.name (whole_opened w) f (allowed m e l (open' h) u.1).name, tt)
+    all_append P (names w) (l.name ∷ []) (names_all m P w u.0 f) (f l.name (rw (whole_opened w) at (allowed m e l (open' h) u.1).name), tt)
+
+-- names outside objects are empty
+empty_replicate : (ns : List Name) → Each (λ n. n ≡ []) ns → ns ≡ replicate (length ns) []
+empty_replicate [] p = refl
+empty_replicate (n ∷ ns) p = rw p.0 (ap {B = List Name} (λ r. [] ∷ r) (empty_replicate ns p.1))
+
+empty_name : (os : List Opened) (n : Name) → in_object os ≡ false → name_ok os n ≡ true → n ≡ []
+empty_name os n f h = nil_from_length n (eqb-true (length n) 0 (rw f at h))
 
 pub names_outside : (m : Memory) {s e : Steps} (w : Whole s e) → Lawful m e → in_object (opened s) ≡ false → names w ≡ replicate (length (names w)) []
-names_outside m w t f = empty_replicate (names w) (empty_names m w t f)
+names_outside m {s} w t f = empty_replicate (names w) (names_all m _ w t (λ n h. empty_name (opened s) n f h))

@@ -7,6 +7,8 @@ use Rattle.steps.specs.Steps.{Steps, Step, Tag, Begun, begin, close, put, open',
 use Rattle.steps.specs.declared.parts.Family.{Family}
 use Rattle.steps.specs.declared.parts.Node.TheVariants.{At, Root}
 use Rattle.steps.specs.declared.parts.Node.{Node}
+use Rattle.std.specs.List.{AllByRecursion as Each}
+use Rattle.redbin.proofs.Lists.{all_append, all_weaker}
 use Rattle.redbin.proofs.Fields.{Below}
 use Rattle.redbin.proofs.Puts.{below_more}
 use Rattle.redbin.specs.Promises.{PathsLead}
@@ -26,15 +28,11 @@ begun_here x xs =
 through_later : (x : Entry) (xs : List Entry) (n : ℕ) → n < length xs → through (x ∷ xs) n ≡ through xs n
 through_later x xs n h = ap (target_or n) (begun_later x xs n h)
 
-pub below_append : (limit : ℕ) (ns ms : List ℕ) → Below limit ns → Below limit ms → Below limit (ns ++ ms)
-below_append limit [] ms p q = q
-below_append limit (n ∷ ns) ms p q = (p.0, below_append limit ns ms p.1 q)
-
 inner_below : (xs : List Entry) (h : Node) → Below (length xs) (inner xs h)
 unfolding inner
 inner_below [] h = tt
 inner_below (x ∷ xs) h =
-    below_append (suc (length xs)) (inner xs h) _ (below_more _ (suc (length xs)) (inner xs h) (omega arith) (inner_below xs h)) (last (same_holder x.holder h))
+    all_append _ (inner xs h) _ (below_more _ (suc (length xs)) (inner xs h) (omega arith) (inner_below xs h)) (last (same_holder x.holder h))
   where
     last : (b : Bool) → Below (suc (length xs)) (cond b (length xs ∷ []) [])
     last true = (omega arith, tt)
@@ -54,7 +52,7 @@ inner_length (x ∷ xs) h =
 
 nth_append : (ns ms : List ℕ) (i n : ℕ) → nth ns i ≡ Some n → nth (ns ++ ms) i ≡ Some n
 unfolding nth
-nth_append [] ms i n h = let z : ◌≡◌ {A = ℕ} 0 1 = cc in absurd (omega arith)
+nth_append [] ms i n h = absurd cc
 nth_append (m ∷ ns) ms zero n h = h
 nth_append (m ∷ ns) ms (suc i) n h = nth_append ns ms i n h
 
@@ -65,7 +63,7 @@ nth_last (m ∷ ns) n = nth_last ns n
 
 nth_below : (limit : ℕ) (ns : List ℕ) (i n : ℕ) → Below limit ns → nth ns i ≡ Some n → n < limit
 unfolding nth
-nth_below limit [] i n b h = let z : ◌≡◌ {A = ℕ} 0 1 = cc in absurd (omega arith)
+nth_below limit [] i n b h = absurd cc
 nth_below limit (m ∷ ns) zero n b h = let e : m ≡ n = cc in omega (arith, b.0)
 nth_below limit (m ∷ ns) (suc i) n b h = nth_below limit ns i n b.1 h
 
@@ -76,8 +74,7 @@ place_later x xs h o m p = go (nth (inner xs h) o) refl
     go : (found : Option ℕ) → nth (inner xs h) o ≡ found → at_place (x ∷ xs) (nth (inner xs h ++ cond (same_holder x.holder h) (length xs ∷ []) []) o) ≡ Some m
     go None q =
         let r : at_place xs None ≡ Some m = rw q at p in
-        let z : ◌≡◌ {A = ℕ} 0 1 = cc in
-        absurd (omega arith)
+        absurd cc
     go (Some n) q =
         let r : at_place xs (Some n) ≡ Some m = rw q at p in
         let l = nth_below (length xs) (inner xs h) o n (inner_below xs h) q in
@@ -102,8 +99,7 @@ walk_later x xs s (o ∷ os) m p = go (λ t r. walk_later x xs t os m r) (onward
     go ih None q =
         let r : walk xs None os ≡ Some m = rw q at p in
         let w = walk_lost xs os in
-        let z : ◌≡◌ {A = ℕ} 0 1 = cc in
-        absurd (omega arith)
+        absurd cc
     go ih (Some n) q =
         let r : walk xs (Some n) os ≡ Some m = rw q at p in
         rw (onward_later x xs s o n q) (ih (Some n) r)
@@ -123,12 +119,10 @@ Sound [] = Unit {0}
 Sound (x ∷ xs) = Sound xs × Held xs x.holder
 
 abbrev pub AllHeld : List Entry → List Opened → Type 0
-AllHeld xs [] = Unit {0}
-AllHeld xs (o ∷ os) = Held xs (At o.number) × AllHeld xs os
+AllHeld xs os = Each (λ o. Held xs (At o.number)) os
 
 held_later : (x : Entry) (xs : List Entry) (os : List Opened) → AllHeld xs os → AllHeld (x ∷ xs) os
-held_later x xs [] h = tt
-held_later x xs (o ∷ os) h = ((omega (arith, h.0.0), through_later x xs o.number h.0.0 ∙ h.0.1), held_later x xs os h.1)
+held_later x xs os h = all_weaker _ _ (λ o p. (omega (arith, p.0), through_later x xs o.number p.0 ∙ p.1)) os h
 
 pub held_innermost : (xs : List Entry) (os : List Opened) → AllHeld xs os → Held xs (innermost os)
 held_innermost xs [] h = tt
@@ -188,7 +182,7 @@ path_leads (x ∷ xs) s n l = go (λ k m. path_leads xs s.0 k m) (eqb n (length 
 
 begun_below : (xs : List Entry) (n : ℕ) (b : Begun) → begun_at xs n ≡ Some b → n < length xs
 unfolding begun_at
-begun_below [] n b h = let z : ◌≡◌ {A = ℕ} 0 1 = cc in absurd (omega arith)
+begun_below [] n b h = absurd cc
 begun_below (x ∷ xs) n b h = go (begun_below xs n b) (eqb n (length xs)) refl
   where
     go : (begun_at xs n ≡ Some b → n < length xs) → (t : Bool) → eqb n (length xs) ≡ t → n < suc (length xs)
@@ -205,14 +199,12 @@ suits_own xs n f h = go (begun_at xs n) refl
     go : (o : Option Begun) → begun_at xs n ≡ o → (n < length xs) × (through xs n ≡ At n)
     go None e =
         let r : begun_suits None f ≡ true = rw e at h in
-        let z : ◌≡◌ {A = ℕ} 0 1 = cc in
-        absurd (omega arith)
+        absurd cc
     go (Some (put v)) e = (begun_below xs n (put v) e, ap (target_or n) e)
     go (Some (open' v)) e = (begun_below xs n (open' v) e, ap (target_or n) e)
     go (Some (share s t)) e =
         let r : begun_suits (Some (share s t)) f ≡ true = rw e at h in
-        let z : ◌≡◌ {A = ℕ} 0 1 = cc in
-        absurd (omega arith)
+        absurd cc
 
 -- following the canonical path of a lawful target gives the target
 pub follow_path : (e : Steps) (t : Node) (f : Family) → suits (values e) t f ≡ true → follow (values e) (path_to (values e) t) ≡ Some t
@@ -236,7 +228,7 @@ path_below (x ∷ xs) n = go (path_below xs) (eqb n (length xs))
     holder : ((k : ℕ) → Below (length xs) (path_of xs k) × (length (path_of xs k) ≤ length xs)) → (h : Node) → Good (way (path_of xs) h ++ length (inner xs h) ∷ [])
     holder ih Root = ((omega (arith, inner_length xs Root), tt), omega arith)
     holder ih (At h) = (
-      below_append (suc (length xs)) (path_of xs h) _ (more (path_of xs h) (ih h)).0 (omega (arith, inner_length xs (At h)), tt),
+      all_append _ (path_of xs h) _ (more (path_of xs h) (ih h)).0 (omega (arith, inner_length xs (At h)), tt),
       omega (arith, length-append (path_of xs h) (length (inner xs (At h)) ∷ []), (ih h).1),
     )
 

@@ -1,17 +1,19 @@
 -- The record of a put value is read back as that put.
-use Rattle.std.proofs.Common.{◌≡◌, ℕ, zero, suc, ◌+◌, ◌-◌, ◌*◌, ◌%◌, ◌^◌, ◌<◌, ◌≤◌, Bool, true, false, cond, eqb, ltb, leb, ◌⊎◌, List, [], ◌∷◌, ◌++◌, length, ℤ, pos, negsuc, refl, ap, inl, inr, append_assoc, arith, lit<, lit≤, length-append}
+use Rattle.std.proofs.Common.{◌≡◌, ℕ, zero, suc, ◌+◌, ◌-◌, ◌*◌, ◌%◌, ◌^◌, ◌<◌, ◌≤◌, Bool, true, false, cond, eqb, ltb, leb, List, [], ◌∷◌, ◌++◌, length, ℤ, pos, negsuc, refl, ap, append_assoc, arith, lit<, lit≤, length-append}
 use lib.ListN.{length-replicate}
 use Rattle.std.proofs.lemmas.Bool.{and_from, le-leb, le-ltb, eq-eqb, eqb-true, eqb-false, ltb-true, leb-true, and_parts}
 use Rattle.steps.specs.Law.{integer_end, field_end, float_end, word_end, Kind, cells, points, names, every_kind, need, Memory, codepoint_end, codepoints_ok, content_ok, has_room, used, usable}
 use Rattle.steps.specs.Outline.{Entry}
 use Rattle.steps.specs.Steps.{Steps, Tag, Name, Content, none, logic, char, integer, float, text, begin, put}
 use Rattle.steps.specs.declared.parts.TextKind.{TextKind}
+use Rattle.redbin.proofs.Lists.{all_from_tests, all_weaker, all_replicate}
 use Rattle.redbin.proofs.Drafted.{InDraft, in_draft}
 use Rattle.redbin.proofs.Fields.{rd, then, field_reads, field_last, below_reads, run_reads, Below, length_fields}
 use Rattle.redbin.proofs.Headings.{heading_reads, heading_last, padded_reads}
 use Rattle.redbin.specs.Bytes.{bytes_of, fields, words, zeros, fill, all_below}
-use Rattle.redbin.specs.Canonical.{unit, bits32, padding, record_of}
-use Rattle.redbin.specs.Layout.{one_byte_end, two_bytes_end, text_length_end, header}
+use Rattle.redbin.specs.declared.width.Width.TheVariants.{One, Two, Four}
+use Rattle.redbin.specs.Canonical.{narrowest, unit, bits32, padding, record_of}
+use Rattle.redbin.specs.Layout.{one_byte_end, two_bytes_end, text_length_end, width, header}
 use Rattle.redbin.specs.Reading.{got, push, run, room, on_boundary, add, add_text, content, value, add_float, signed, is_nonzero}
 use Rattle.redbin.specs.declared.form.Form.TheVariants.{Logic as is_logic, Integer as is_integer, Char as is_char, Nothing as is_none, Text as is_text, Float as is_float}
 use Rattle.refusal.specs.declared.Part.TheVariants.{Record}
@@ -30,45 +32,31 @@ unfolding push
 add_reads c place l v bytes e r = then _ (room_reads c place (need l.name (put v)) bytes e r) refl
 
 pub below_all : (limit : ℕ) (ns : List ℕ) → all_below limit ns ≡ true → Below limit ns
-unfolding all_below
-below_all limit [] h = tt
-below_all limit (n ∷ ns) h = (ltb-true n limit (and_parts _ _ h).0, below_all limit ns (and_parts _ _ h).1)
-
-pub below_codepoints : (ps : List ℕ) → codepoints_ok ps ≡ true → Below codepoint_end ps
-below_codepoints [] h = tt
-below_codepoints (p ∷ ps) h = (ltb-true p codepoint_end (and_parts _ _ h).0, below_codepoints ps (and_parts _ _ h).1)
+below_all limit ns h = all_from_tests _ _ (λ n l. ltb-true n limit l) ns h
 
 pub below_more : (a b : ℕ) (ns : List ℕ) → a ≤ b → Below a ns → Below b ns
-below_more a b [] l h = tt
-below_more a b (n ∷ ns) l h = (omega (arith, h.0), below_more a b ns l h.1)
+below_more a b ns l h = all_weaker _ _ (λ n p. omega arith) ns h
 
 fields_zeros : (n : ℕ) → fields 1 (zeros n) ≡ zeros n
 unfolding fields bytes_of
 fields_zeros zero = refl
 fields_zeros (suc n) = ap {B = List ℕ} (λ r. 0 ∷ r) (fields_zeros n)
 
-below_zeros : (limit n : ℕ) → 0 < limit → Below limit (zeros n)
-below_zeros limit zero h = tt
-below_zeros limit (suc n) h = (h, below_zeros limit n h)
-
 zeros_read : (size : ℕ) (part : Part) (why : Reason) (n : ℕ) (more : List ℕ) (e : Steps)
     → run size part 1 1 why n (rd (zeros n ++ more) e) ≡ got (zeros n) (rd more e)
 zeros_read size part why n more e =
-    let h = run_reads size part 1 1 why (zeros n) more e (below_zeros _ n (lit< tt)) (below_zeros _ n (lit< tt)) in
+    let h = run_reads size part 1 1 why (zeros n) more e (all_replicate _ n 0 (lit< tt)) (all_replicate _ n 0 (lit< tt)) in
     rw (fields_zeros n, length-replicate {A = ℕ} n 0) at h
 
--- the unit that the canonical form takes fits the codepoints
-pub unit_fits : (ps : List ℕ) → Below codepoint_end ps → ((unit ps ≡ 1) ⊎ ((unit ps ≡ 2) ⊎ (unit ps ≡ 4))) × Below (256 ^ unit ps) ps
-unfolding unit
+-- the canonical form's width fits the codepoints
+pub unit_fits : (ps : List ℕ) → Below codepoint_end ps → Below (256 ^ unit ps) ps
+unfolding narrowest
 unit_fits ps h = go (all_below one_byte_end ps) (all_below two_bytes_end ps) refl refl
   where
-    Good : ℕ → Type 0
-    Good u = ((u ≡ 1) ⊎ ((u ≡ 2) ⊎ (u ≡ 4))) × Below (256 ^ u) ps
-
-    go : (a b : Bool) → all_below one_byte_end ps ≡ a → all_below two_bytes_end ps ≡ b → Good (cond a 1 (cond b 2 4))
-    go true b p q = (inl refl, below_all one_byte_end ps p)
-    go false true p q = (inr (inl refl), below_all two_bytes_end ps q)
-    go false false p q = (inr (inr refl), below_more codepoint_end (256 ^ 4) ps (lit≤ tt) h)
+    go : (a b : Bool) → all_below one_byte_end ps ≡ a → all_below two_bytes_end ps ≡ b → Below (256 ^ width (cond a One (cond b Two Four))) ps
+    go true b p q = below_all one_byte_end ps p
+    go false true p q = below_all two_bytes_end ps q
+    go false false p q = below_more codepoint_end (256 ^ 4) ps (lit≤ tt) h
 
 pub every_all : (f : Kind → Bool) → every_kind f ≡ true → (k : Kind) → f k ≡ true
 every_all f h cells = (and_parts (f cells) _ h).0
@@ -93,7 +81,7 @@ text_reads c start l k head ps more e hh hp r =
     let s : length ps < text_length_end = points_small c.memory e l.name k head ps r in
     then _ (field_reads c.size Record 4 field_end Large head (length ps ∷ []) _ e (omega arith) hh)
     (then _ (field_last c.size Record 4 text_length_end Large (length ps) _ e (omega arith) s)
-    (then _ (run_reads c.size Record (unit ps) codepoint_end BadContent ps _ e (unit_fits ps hp).1 hp)
+    (then _ (run_reads c.size Record (unit ps) codepoint_end BadContent ps _ e (unit_fits ps hp) hp)
     (then _ (zeros_read c.size Record BadContent (fill 4 (unit ps * length ps)) more e)
     (add_reads c start l (text k head ps) more e r))))
 
@@ -134,19 +122,19 @@ pub put_reads : (c : InDraft) (d : ℕ) (all before : List Entry) (place : ℕ) 
     → value (in_draft c) (suc d) l.name (rd (record_of all before place l (put v) ++ more) e) ≡ got tt (rd more (begin l (put v) ∷ e))
 unfolding value content record_of
 put_reads c d all before place l none more e ok r a s =
-    then _ (heading_last c is_none l.new_line more e tt) (add_reads c _ l none more e r)
+    then _ (heading_last c is_none l.new_line more e) (add_reads c _ l none more e r)
 put_reads c d all before place l (logic b) more e ok r a s =
     let q : cond b 1 0 < 256 ^ 4 = omega (arith, cond_below b) in
-    then _ (heading_reads c is_logic l.new_line (cond b 1 0 ∷ []) more e tt)
+    then _ (heading_reads c is_logic l.new_line (cond b 1 0 ∷ []) more e)
     (then _ (field_last c.size Record 4 2 BadContent (cond b 1 0) more e q (cond_below b))
     (rw (nonzero_cond b) (add_reads c _ l (logic b) more e r)))
 put_reads c d all before place l (char n) more e ok r a s =
     let q = ltb-true n codepoint_end ok in
-    then _ (heading_reads c is_char l.new_line (n ∷ []) more e tt)
+    then _ (heading_reads c is_char l.new_line (n ∷ []) more e)
     (then _ (field_last c.size Record 4 codepoint_end BadContent n more e (omega arith) q) (add_reads c _ l (char n) more e r))
 put_reads c d all before place l (integer z) more e ok r a s =
     let q = signed_bits z ok in
-    then _ (heading_reads c is_integer l.new_line (bits32 z ∷ []) more e tt)
+    then _ (heading_reads c is_integer l.new_line (bits32 z ∷ []) more e)
     (then _ (field_last c.size Record 4 word_end Large (bits32 z) more e q.0 q.0)
     (rw q.1 (add_reads c _ l (integer z) more e r)))
 put_reads c d all before place l (float x) more e ok r a s =
@@ -171,12 +159,12 @@ put_reads c d all before place l (float x) more e ok r a s =
         let z : ¬ (place % 8 ≡ 0) = eqb-false (place % 8) 0 p in
         let s' : place + (4 + length (bytes_of 8 x ++ more)) ≡ c.payload = rw (p, append_assoc W (bytes_of 8 x) more, length_word (header is_float l.new_line) (bytes_of 8 x ++ more)) at s₀ in
         rw (p, append_assoc W (bytes_of 8 x) more)
-        (then _ (heading_last c is_float l.new_line (bytes_of 8 x ++ more) e tt) (float_reads c _ l x more e h r (omega arith)))
+        (then _ (heading_last c is_float l.new_line (bytes_of 8 x ++ more) e) (float_reads c _ l x more e h r (omega arith)))
 put_reads c d all before place l (text k h ps) more e ok r a s =
-    let W = words (header (is_text k (unit ps)) l.new_line ∷ h ∷ length ps ∷ []) in
+    let W = words (header (is_text k (narrowest ps)) l.new_line ∷ h ∷ length ps ∷ []) in
     let Z = zeros (fill 4 (unit ps * length ps)) in
     let p = and_parts (ltb h field_end) (codepoints_ok ps) ok in
-    let b = below_codepoints ps p.1 in
+    let b = below_all codepoint_end ps p.1 in
     rw (append_assoc W (fields (unit ps) ps ++ Z) more, append_assoc (fields (unit ps) ps) Z more)
-    (then _ (heading_reads c (is_text k (unit ps)) l.new_line (h ∷ length ps ∷ []) _ e (unit_fits ps b).0)
+    (then _ (heading_reads c (is_text k (narrowest ps)) l.new_line (h ∷ length ps ∷ []) _ e)
     (text_reads c _ l k h ps more e (ltb-true h field_end p.0) b r))

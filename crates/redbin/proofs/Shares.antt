@@ -67,14 +67,14 @@ pub share_reads : (c : InDraft) (d : ℕ) (all : List Entry) (place : ℕ) (l : 
 unfolding value content record_of
 share_reads c d all place l (ShareList k n) t more e ok h r =
     let q = ltb-true n field_end ok in
-    then _ (heading_reads c (shares_list k) l.new_line (n ∷ reference (path_to (values e) t)) more e tt)
+    then _ (heading_reads c (shares_list k) l.new_line (n ∷ reference (path_to (values e) t)) more e)
     (then _ (field_reads c.size Record 4 field_end Large n (reference (path_to (values e) t)) more e (omega arith) q)
     (add_share_reads c _ l (ShareList k n) t more e h r))
 share_reads c d all place l (ShareText k n) t more e ok h r =
     let q = ltb-true n field_end ok in
-    then _ (heading_reads c (shares_text k) l.new_line (n ∷ reference (path_to (values e) t)) more e tt)
+    then _ (heading_reads c (shares_text k) l.new_line (n ∷ reference (path_to (values e) t)) more e)
     (then _ (field_reads c.size Record 4 field_end Large n (reference (path_to (values e) t)) more e (omega arith) q)
     (add_share_reads c _ l (ShareText k n) t more e h r))
 share_reads c d all place l (ShareObject w) t more e ok h r =
-    then _ (heading_reads c (shares_object w) l.new_line (reference (path_to (values e) t)) more e tt)
+    then _ (heading_reads c (shares_object w) l.new_line (reference (path_to (values e) t)) more e)
     (add_share_reads c _ l (ShareObject w) t more e h r)

@@ -1,31 +1,16 @@
 -- The names of a document stand among its symbols, where their indexes say.
-use Rattle.std.proofs.Common.{◌≡◌, ℕ, suc, ◌<◌, Bool, true, false, cond, eqb, ◌⊎◌, List, [], ◌∷◌, map, length, get_or, refl, inl, inr, arith}
+use Rattle.std.proofs.Common.{◌≡◌, suc, ◌<◌, Bool, true, false, cond, ◌⊎◌, List, [], ◌∷◌, map, length, get_or, refl, inl, inr, sym, arith}
 use mathlib.Core.List.Memᴰ
 use mathlib.Core.List.{Memᴰ}
-use Rattle.std.proofs.lemmas.Bool.{eq-eqb, eqb-true, and_parts, and_from}
 use Rattle.steps.specs.Outline.{Entry}
 use Rattle.steps.specs.Steps.{Name}
+use Rattle.std.proofs.lemmas.Slice.Eq.{bytes_eq-Decides}
+use Rattle.std.specs.List.{AllByRecursion as Each}
 use Rattle.redbin.proofs.Fields.{Below}
 use Rattle.redbin.proofs.Parts.{Within, all_of, later}
 use Rattle.redbin.specs.Bytes.{same}
 use Rattle.redbin.specs.Canonical.{index_of, without, once, names_if_object, written_names, symbols}
 use Rattle.redbin.specs.Reading.{named_by}
-
-same_self : (n : Name) → same n n ≡ true
-unfolding same
-same_self [] = refl
-same_self (b ∷ n) = and_from (eqb b b) (same n n) (eq-eqb b b refl) (same_self n)
-
-same_true : (m n : Name) → same m n ≡ true → m ≡ n
-unfolding same
-same_true [] [] h = refl
-same_true [] (b ∷ n) h = let z : ◌≡◌ {A = ℕ} 0 1 = cc in absurd (omega arith)
-same_true (a ∷ m) [] h = let z : ◌≡◌ {A = ℕ} 0 1 = cc in absurd (omega arith)
-same_true (a ∷ m) (b ∷ n) h =
-    let p = and_parts (eqb a b) (same m n) h in
-    let e : a ≡ b = eqb-true a b p.0 in
-    let f : m ≡ n = same_true m n p.1 in
-    cc
 
 index_found : (ms : List Name) (n : Name) → Memᴰ n ms → (index_of ms n < length ms) × (get_or ms (index_of ms n) [] ≡ n)
 unfolding index_of
@@ -34,11 +19,10 @@ index_found (m ∷ ms) n h = go (index_found ms n) (same m n) refl (Memᴰ.cases
   where
     go : (Memᴰ n ms → (index_of ms n < length ms) × (get_or ms (index_of ms n) [] ≡ n)) → (b : Bool) → same m n ≡ b → (n ≡ m) ⊎ Memᴰ n ms
         → (cond b 0 (suc (index_of ms n)) < suc (length ms)) × (get_or (m ∷ ms) (cond b 0 (suc (index_of ms n))) [] ≡ n)
-    go ih true e c = (omega arith, same_true m n e)
+    go ih true e c = (omega arith, (bytes_eq-Decides m n).0 e)
     go ih false e (inl p) =
-        let q : same m n ≡ true = rw p (same_self m) in
-        let z : ◌≡◌ {A = ℕ} 0 1 = cc in
-        absurd (omega arith)
+        let q : same m n ≡ true = (bytes_eq-Decides m n).1 (sym p) in
+        absurd cc
     go ih false e (inr p) = (omega (arith, (ih p).0), (ih p).1)
 
 without_has : (m n : Name) (ms : List Name) → (same n m ≡ false) → Memᴰ n ms → Memᴰ n (without m ms)
@@ -49,8 +33,7 @@ without_has m n (x ∷ ms) d h = go (without_has m n ms d) (same x m) refl (Mem�
     go : (Memᴰ n ms → Memᴰ n (without m ms)) → (b : Bool) → same x m ≡ b → (n ≡ x) ⊎ Memᴰ n ms → Memᴰ n (cond b (without m ms) (x ∷ without m ms))
     go ih true e (inl p) =
         let q : same n m ≡ true = rw p e in
-        let z : ◌≡◌ {A = ℕ} 0 1 = cc in
-        absurd (omega arith)
+        absurd cc
     go ih true e (inr p) = ih p
     go ih false e (inl p) = Memᴰ.head p
     go ih false e (inr p) = Memᴰ.tail (ih p)
@@ -61,7 +44,7 @@ once_has [] n h = h
 once_has (m ∷ ns) n h = go (once_has ns n) (same n m) refl (Memᴰ.cases_cons h)
   where
     go : (Memᴰ n ns → Memᴰ n (once ns)) → (b : Bool) → same n m ≡ b → (n ≡ m) ⊎ Memᴰ n ns → Memᴰ n (m ∷ without m (once ns))
-    go ih true e c = Memᴰ.head (same_true n m e)
+    go ih true e c = Memᴰ.head ((bytes_eq-Decides n m).0 e)
     go ih false e (inl p) = Memᴰ.head p
     go ih false e (inr p) = Memᴰ.tail (without_has m n (once ns) e (ih p))
 
@@ -72,8 +55,7 @@ written_has all y ys xs n all_of h = Memᴰ.append_right (written_names all ys) 
 written_has all y ys xs n (later {x = x} {xs = zs} w) h = Memᴰ.append_left (names_if_object all (length zs) x.begun) (written_has all y ys zs n w h)
 
 abbrev pub Among : List Name → List Name → Type 0
-Among [] table = Unit {0}
-Among (n ∷ ns) table = Memᴰ n table × Among ns table
+Among ns table = Each (λ n. Memᴰ n table) ns
 
 among : (ns table : List Name) → ((n : Name) → Memᴰ n ns → Memᴰ n table) → Among ns table
 among [] table f = tt

@@ -2,17 +2,19 @@
 use Rattle.std.proofs.Common.{◌≡◌, ℕ, zero, suc, ◌+◌, ◌^◌, ◌≤◌, Bool, true, false, cond, eqb, ltb, leb, List, [], ◌∷◌, ◌++◌, length, drop, Some, Option, refl, ap, ◌∙◌, append_assoc, append-nil, arith, length-append}
 use Rattle.std.proofs.lemmas.List.{take_at, drop_at}
 use Rattle.std.proofs.lemmas.Bool.{and_parts}
-use Rattle.steps.specs.Law.{field_end, word_end, Memory, Lawful, name_ok}
-use Rattle.steps.specs.Outline.{Entry, Opened, values, opened, in_object, inner_names}
-use Rattle.steps.specs.Steps.{Steps, Name, close, put, open', share}
+use Rattle.steps.specs.Law.{field_end, word_end, Memory, Lawful}
+use Rattle.steps.specs.Outline.{Entry, values, opened, in_object, inner_names}
+use Rattle.steps.specs.Steps.{Steps, Name, close}
 use Rattle.steps.specs.Utf8.{lawful_name, no_zero}
 use Rattle.steps.specs.declared.parts.Holder.TheVariants.{Object as OfObject, List as OfList}
 use Rattle.steps.specs.declared.parts.Node.TheVariants.{At}
+use Rattle.std.specs.List.{AllByRecursion as Each}
+use Rattle.redbin.proofs.Lists.{all_append}
 use Rattle.redbin.specs.Layout.{largest_file}
 use Rattle.redbin.proofs.Fields.{rd, then, field_reads, run_reads, enough_reads, Below, length_fields}
-use Rattle.redbin.proofs.Parts.{PartOf, part_tail, part_start, start_lawful, holder_names}
+use Rattle.redbin.proofs.Parts.{PartOf, part_tail, part_start, names_all, holder_names}
 use Rattle.redbin.proofs.Puts.{below_more}
-use Rattle.redbin.proofs.Whole.{Whole, nothing, a_put, a_share, a_holder, names, whole_opened, allowed}
+use Rattle.redbin.proofs.Whole.{Whole, nothing, a_put, a_share, a_holder, names}
 use Rattle.redbin.specs.Bytes.{words, zeros, fill, same}
 use Rattle.redbin.specs.Canonical.{without, once, written_names, symbols, stored, strings, offsets, table, flags_for}
 use Rattle.redbin.specs.Reading.{Reader, got, here, skip, run, until_zero, before, if_lawful, name_at, name_or_refuse, names_at, symbol_table, return}
@@ -20,12 +22,7 @@ use Rattle.refusal.specs.declared.Part.TheVariants.{Symbols}
 use Rattle.refusal.specs.declared.Reason.TheVariants.{Large}
 
 abbrev pub AllLawful : List Name → Type 0
-AllLawful [] = Unit {0}
-AllLawful (n ∷ ns) = (lawful_name n ≡ true) × AllLawful ns
-
-lawful_append : (ns ms : List Name) → AllLawful ns → AllLawful ms → AllLawful (ns ++ ms)
-lawful_append [] ms p q = q
-lawful_append (n ∷ ns) ms p q = (p.0, lawful_append ns ms p.1 q)
+AllLawful ns = Each (λ n. lawful_name n ≡ true) ns
 
 lawful_without : (n : Name) (ms : List Name) → AllLawful ms → AllLawful (without n ms)
 unfolding without
@@ -41,20 +38,8 @@ unfolding once
 lawful_once [] p = tt
 lawful_once (n ∷ ns) p = (p.0, lawful_without n (once ns) (lawful_once ns p.1))
 
-lawful_inside : (os os' : List Opened) (n : Name) → os ≡ os' → in_object os' ≡ true → name_ok os n ≡ true → lawful_name n ≡ true
-lawful_inside os os' n e f h =
-    let g : in_object os ≡ true = rw e f in
-    rw g at h
-
 names_inside : (m : Memory) {s e : Steps} (w : Whole s e) → Lawful m e → in_object (opened s) ≡ true → AllLawful (names w)
-names_inside m nothing t f = tt
-names_inside m {s} (a_put {e = e} l v w) t f =
-    lawful_append (names w) (l.name ∷ []) (names_inside m w t.0 f) (lawful_inside (opened e) (opened s) l.name (whole_opened w) f (allowed m e l (put v) t.1).name, tt)
-names_inside m {s} (a_share {e = e} l h k w) t f =
-    lawful_append (names w) (l.name ∷ []) (names_inside m w t.0 f) (lawful_inside (opened e) (opened s) l.name (whole_opened w) f (allowed m e l (share h k) t.1).name, tt)
-names_inside m {s} (a_holder {e = e} l h w v) t f =
-    let u = start_lawful m v t.0 in
-    lawful_append (names w) (l.name ∷ []) (names_inside m w u.0 f) (lawful_inside (opened e) (opened s) l.name (whole_opened w) f (allowed m e l (open' h) u.1).name, tt)
+names_inside m w t f = names_all m _ w t (λ n h. rw f at h)
 
 written_lawful : (m : Memory) (all : List Entry) {s e : Steps} (w : Whole s e) → PartOf m all e → AllLawful (written_names all (values s)) → AllLawful (written_names all (values e))
 unfolding written_names
@@ -70,7 +55,7 @@ written_lawful m all (a_holder {e = e} {e' = e'} l (OfObject o t k u b) w v) p a
     let p₂ = part_tail m all _ _ (part_start m all v p₁) in
     let n = holder_names m all l (OfObject o t k u b) v p in
     let i : AllLawful (inner_names all (At (length (values e)))) = rw n (names_inside m v p.lawful.0 refl) in
-    written_lawful m all v p₁ (lawful_append (written_names all (values e)) _ (written_lawful m all w p₂ a) i)
+    written_lawful m all v p₁ (all_append _ (written_names all (values e)) _ (written_lawful m all w p₂ a) i)
 
 -- the symbols of a lawful document are lawful names
 pub symbols_lawful : (m : Memory) (e : Steps) → Whole [] e → PartOf m (values e) e → AllLawful (symbols (values e))
@@ -80,7 +65,7 @@ symbols_lawful m e w p = lawful_once (written_names (values e) (values e)) (writ
 until_zero_name : (n more : List ℕ) → no_zero n ≡ true → until_zero (n ++ 0 ∷ more) ≡ Some n
 unfolding until_zero
 until_zero_name [] more h = refl
-until_zero_name (zero ∷ n) more h = let z : ◌≡◌ {A = ℕ} 0 1 = cc in absurd (omega arith)
+until_zero_name (zero ∷ n) more h = absurd cc
 until_zero_name (suc b ∷ n) more h = ap (before (suc b)) (until_zero_name n more (and_parts (ltb 0 (suc b)) (no_zero n) h).1)
 
 name_no_zero : (n : Name) → lawful_name n ≡ true → no_zero n ≡ true

@@ -23,7 +23,7 @@ pub record Allowed (m : Memory) (e : Steps) (l : Tag) (b : Begun) : Type 0 where
 
 unless_passed : (b : Bool) (why : Reason) (next : Option Reason) → unless b why next ≡ None → (b ≡ true) × (next ≡ None)
 unless_passed true why next h = (refl, h)
-unless_passed false why next h = let z : ◌≡◌ {A = ℕ} 0 1 = cc in absurd (omega arith)
+unless_passed false why next h = absurd cc
 
 pub allowed : (m : Memory) (e : Steps) (l : Tag) (b : Begun) → refusal m e (begin l b) ≡ None → Allowed m e l b
 allowed m e l b h =

@@ -1,5 +1,6 @@
 -- Numbers as bytes and bits, and small tests on lists of numbers.
-use Rattle.std.specs.Prelude.{ℕ, zero, suc, ◌+◌, ◌-◌, ◌*◌, ◌/◌, ◌%◌, ◌^◌, Bool, true, false, ◌&&◌, List, [], ◌∷◌, ◌++◌, replicate, ◌==◌, nat_lt}
+use Rattle.std.specs.Prelude.{ℕ, zero, suc, ◌+◌, ◌-◌, ◌*◌, ◌/◌, ◌%◌, ◌^◌, Bool, List, [], ◌∷◌, ◌++◌, replicate, nat_lt, bytes_eq}
+use Rattle.std.specs.List.{list_all}
 
 -- the number in which bit n alone is set; also the first number that does not fit n bits
 abbrev pub bit : ℕ → ℕ
@@ -32,13 +33,9 @@ abbrev pub zeros : ℕ → List ℕ
 zeros n = replicate n 0
 
 -- all numbers of a list are below a limit
-unfoldable pub all_below : ℕ → List ℕ → Bool
-all_below limit [] = true
-all_below limit (n ∷ ns) = nat_lt n limit && all_below limit ns
+abbrev pub all_below : ℕ → List ℕ → Bool
+all_below limit ns = list_all (λ n. nat_lt n limit) ns
 
 -- two lists of numbers are the same
-unfoldable pub same : List ℕ → List ℕ → Bool
-same [] [] = true
-same [] (y ∷ ys) = false
-same (x ∷ xs) [] = false
-same (x ∷ xs) (y ∷ ys) = x == y && same xs ys
+abbrev pub same : List ℕ → List ℕ → Bool
+same xs ys = bytes_eq xs ys

@@ -7,14 +7,20 @@ use Rattle.steps.specs.Steps.{Name, Tag, none, logic, char, integer, float, text
 use Rattle.steps.specs.Outline.{Entry, values, inner_names, path_to}
 use Rattle.steps.specs.Law.{word_end}
 use Rattle.redbin.specs.declared.form.Form.TheVariants.{Nothing as is_none, Logic as is_logic, Char as is_char, Integer as is_integer, Float as is_float, Text as is_text, List as is_list, Object as is_object, ShareText as shares_text, ShareList as shares_list, ShareObject as shares_object}
+use Rattle.redbin.specs.declared.width.Width.{Width}
+use Rattle.redbin.specs.declared.width.Width.TheVariants.{One, Two, Four}
 use Rattle.redbin.specs.Bytes.{bytes_of, fields, words, fill, zeros, all_below, same}
-use Rattle.redbin.specs.Layout.{letters, version, table_flag, one_byte_end, two_bytes_end, padding_type, header, context_header, reference_header}
+use Rattle.redbin.specs.Layout.{letters, version, table_flag, one_byte_end, two_bytes_end, padding_type, width, header, context_header, reference_header}
 
 -- ---- contents
 
--- how many bytes each codepoint of a text takes: the smallest unit that fits them all, so 1 if the text is empty
-unfoldable pub unit : List ℕ → ℕ
-unit ps = cond (all_below one_byte_end ps) 1 (cond (all_below two_bytes_end ps) 2 4)
+-- the width of each codepoint of a text: the smallest that fits them all, so one byte if the text is empty
+unfoldable pub narrowest : List ℕ → Width
+narrowest ps = cond (all_below one_byte_end ps) One (cond (all_below two_bytes_end ps) Two Four)
+
+-- how many bytes that is
+abbrev pub unit : List ℕ → ℕ
+unit ps = width (narrowest ps)
 
 -- the 32 bits of a signed number, in two's complement
 abbrev pub bits32 : ℤ → ℕ
@@ -72,7 +78,7 @@ record_of all before place l (put (char n)) = words (header is_char l.new_line �
 record_of all before place l (put (integer z)) = words (header is_integer l.new_line ∷ bits32 z ∷ [])
 record_of all before place l (put (float n)) = padding place ++ (words (header is_float l.new_line ∷ []) ++ bytes_of 8 n)
 record_of all before place l (put (text k h ps)) =
-    words (header (is_text k (unit ps)) l.new_line ∷ h ∷ length ps ∷ []) ++ (fields (unit ps) ps ++ zeros (fill 4 (unit ps * length ps)))
+    words (header (is_text k (narrowest ps)) l.new_line ∷ h ∷ length ps ∷ []) ++ (fields (unit ps) ps ++ zeros (fill 4 (unit ps * length ps)))
 record_of all before place l (open' (OfList k h)) =
     words (header (is_list k) l.new_line ∷ h ∷ length (inner_names all (At (length before))) ∷ [])
 record_of all before place l (open' (OfObject w s c t a)) =

@@ -6,6 +6,8 @@ use Rattle.steps.specs.declared.parts.ListKind.{ListKind}
 use Rattle.steps.specs.declared.parts.ListKind.TheVariants.{Block, Paren, Path, LitPath, SetPath, GetPath}
 use Rattle.redbin.specs.declared.form.Form.{Form}
 use Rattle.redbin.specs.declared.form.Form.TheVariants.{Nothing, Logic, Char, Integer, Float, Text, List as OfList, Object as OfObject, ShareText, ShareList, ShareObject}
+use Rattle.redbin.specs.declared.width.Width.{Width}
+use Rattle.redbin.specs.declared.width.Width.TheVariants.{One, Two, Four}
 use Rattle.redbin.specs.Bytes.{bit}
 
 -- ---- the file
@@ -128,9 +130,15 @@ type_of (ShareObject w) = object_type
 abbrev pub mark : ℕ → ℕ
 mark n = bit (n - 8)
 
+-- how many bytes a number of this width has
+abbrev pub width : Width → ℕ
+width One = 1
+width Two = 2
+width Four = 4
+
 -- bits 15-8 of a text are how many bytes each codepoint has: 1, 2 or 4
-abbrev pub unit_bits : ℕ → ℕ
-unit_bits u = u * mark 8
+abbrev pub unit_bits : Width → ℕ
+unit_bits u = width u * mark 8
 
 -- bit 19 makes a list, text or object a share
 abbrev pub share_mark : ℕ
@@ -150,7 +158,7 @@ bits_of Float = 0
 bits_of (Text k u) = unit_bits u
 bits_of (OfList k) = 0
 bits_of (OfObject w) = owner_mark w
-bits_of (ShareText k) = share_mark + unit_bits 1
+bits_of (ShareText k) = share_mark + unit_bits One
 bits_of (ShareList k) = share_mark
 bits_of (ShareObject w) = share_mark + owner_mark w
 

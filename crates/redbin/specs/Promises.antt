@@ -1,13 +1,15 @@
 -- What holds of the canonical form and of reading.
-use Rattle.std.specs.Prelude.{◌≡◌, ℕ, ◌<◌, ◌≤◌, ◌⊎◌, List, [], ◌++◌, length, Some, Ok, Err}
+use Rattle.std.specs.Prelude.{◌≡◌, ℕ, ◌<◌, ◌≤◌, ◌/◌, ◌%◌, Bool, ◌⊎◌, List, [], ◌++◌, length, Some, Ok, Err}
 use Rattle.refusal.specs.declared.Reason.TheVariants.{NoMemory}
 use Rattle.refusal.specs.declared.Part.TheVariants.{Record}
 use Rattle.steps.specs.Steps.{Steps}
 use Rattle.steps.specs.Outline.{values, through, follow, path_of}
 use Rattle.steps.specs.Law.{Kind, Memory, used, usable, Lawful, Closed}
-use Rattle.redbin.specs.Layout.{largest_file}
+use Rattle.redbin.specs.declared.form.Form.{Form}
+use Rattle.redbin.specs.Bytes.{bit}
+use Rattle.redbin.specs.Layout.{largest_file, header}
 use Rattle.redbin.specs.Canonical.{canonical}
-use Rattle.redbin.specs.Reading.{because, unlimited, read, load, file_steps}
+use Rattle.redbin.specs.Reading.{announced, is_nonzero, because, unlimited, read, load, file_steps}
 
 -- a memory has room for these steps
 abbrev pub Fits : Memory → Steps → Type 0
@@ -16,6 +18,11 @@ Fits m e = (k : Kind) → used e k ≤ usable m k
 -- steps that can be written: each was accepted in some memory, nothing is open, and their file is not too long
 abbrev pub Writable : Steps → Type 0
 Writable e = ((m : Memory) × Lawful m e) × Closed e × (length (canonical e) ≤ largest_file)
+
+-- the header that is written for a form, with a new-line mark or without, announces that form and that mark
+abbrev pub HeadersReadBack : Type 0
+HeadersReadBack =
+    (f : Form) (new_line : Bool) → (announced (header f new_line % bit 8) (header f new_line / bit 8 % bit 23) ≡ Ok f) × (is_nonzero (header f new_line / bit 31) ≡ new_line)
 
 -- the canonical form is read back as the steps that it was written for, in every memory with room for them
 abbrev pub CanonicalReadsBack : Type 0

@@ -24,8 +24,9 @@ use Rattle.steps.specs.Outline.{Entry, values, suits, follow, share_family}
 use Rattle.steps.specs.Law.{Memory, so_much, has_room, need, codepoint_end, field_end, integer_end, word_end, float_end, deepest}
 use Rattle.redbin.specs.declared.form.Form.{Form}
 use Rattle.redbin.specs.declared.form.Form.TheVariants.{Nothing as is_none, Logic as is_logic, Char as is_char, Integer as is_integer, Float as is_float, Text as is_text, List as is_list, Object as is_object, ShareText as shares_text, ShareList as shares_list, ShareObject as shares_object}
+use Rattle.redbin.specs.declared.width.Width.TheVariants.{One, Two, Four}
 use Rattle.redbin.specs.Bytes.{bit, number, fill, same}
-use Rattle.redbin.specs.Layout.{letters, version_place, flags_place, payload_size_place, start_size, file_header_size, version, table_flag, largest_file, text_length_end, padding_type, context_type, reference_type, none_type, logic_type, char_type, integer_type, float_type, object_type, text_type, list_type, unit_bits, share_mark, owner_mark, context_header, reference_header}
+use Rattle.redbin.specs.Layout.{letters, version_place, flags_place, payload_size_place, start_size, file_header_size, version, table_flag, largest_file, text_length_end, padding_type, context_type, reference_type, none_type, logic_type, char_type, integer_type, float_type, object_type, text_type, list_type, width, unit_bits, share_mark, owner_mark, context_header, reference_header}
 
 infixl 10 ◌>>=◌
 infixl 10 ◌>>◌
@@ -151,33 +152,29 @@ module _ (size : ℕ) where
 
 -- ---- headers
 
--- what a type and the bits 30-8 of a header announce
-pub data Announced : Type 0 where
-  form : Form → Announced
-  wrong_type wrong_bits : Announced
-
-abbrev pub plain : ℕ → Form → Announced
-plain bits f = cond (bits == 0) (form f) wrong_bits
+-- what a type and the bits 30-8 of a header announce, or for which reason they are refused
+abbrev pub plain : ℕ → Form → Result Form Reason
+plain bits f = cond (bits == 0) (Ok f) (Err BadBits)
 
 -- the unit bits of a text are 1, 2 or 4; those of a shared text are dropped
-abbrev pub text_form : ℕ → TextKind → Announced
+abbrev pub text_form : ℕ → TextKind → Result Form Reason
 text_form bits k =
-    cond (bits == unit_bits 1) (form (is_text k 1))
-    (cond (bits == unit_bits 2) (form (is_text k 2))
-    (cond (bits == unit_bits 4) (form (is_text k 4))
-    (cond (bits == share_mark + unit_bits 1 || (bits == share_mark + unit_bits 2 || bits == share_mark + unit_bits 4)) (form (shares_text k)) wrong_bits)))
+    cond (bits == unit_bits One) (Ok (is_text k One))
+    (cond (bits == unit_bits Two) (Ok (is_text k Two))
+    (cond (bits == unit_bits Four) (Ok (is_text k Four))
+    (cond (bits == share_mark + unit_bits One || (bits == share_mark + unit_bits Two || bits == share_mark + unit_bits Four)) (Ok (shares_text k)) (Err BadBits))))
 
-abbrev pub list_form : ℕ → ListKind → Announced
-list_form bits k = cond (bits == 0) (form (is_list k)) (cond (bits == share_mark) (form (shares_list k)) wrong_bits)
+abbrev pub list_form : ℕ → ListKind → Result Form Reason
+list_form bits k = cond (bits == 0) (Ok (is_list k)) (cond (bits == share_mark) (Ok (shares_list k)) (Err BadBits))
 
-abbrev pub object_form : ℕ → Announced
+abbrev pub object_form : ℕ → Result Form Reason
 object_form bits =
-    cond (bits == owner_mark false) (form (is_object false))
-    (cond (bits == owner_mark true) (form (is_object true))
-    (cond (bits == share_mark + owner_mark false) (form (shares_object false))
-    (cond (bits == share_mark + owner_mark true) (form (shares_object true)) wrong_bits)))
+    cond (bits == owner_mark false) (Ok (is_object false))
+    (cond (bits == owner_mark true) (Ok (is_object true))
+    (cond (bits == share_mark + owner_mark false) (Ok (shares_object false))
+    (cond (bits == share_mark + owner_mark true) (Ok (shares_object true)) (Err BadBits))))
 
-unfoldable pub announced : ℕ → ℕ → Announced
+unfoldable pub announced : ℕ → ℕ → Result Form Reason
 announced type bits =
     cond (type == none_type) (plain bits is_none)
     (cond (type == logic_type) (plain bits is_logic)
@@ -193,7 +190,7 @@ announced type bits =
     (cond (type == list_type LitPath) (list_form bits LitPath)
     (cond (type == list_type SetPath) (list_form bits SetPath)
     (cond (type == list_type GetPath) (list_form bits GetPath)
-    (cond (type == object_type) (object_form bits) wrong_type))))))))))))))
+    (cond (type == object_type) (object_form bits) (Err BadType)))))))))))))))
 
 -- a value's header that was read: its place, what it announces and the new-line mark
 pub record Heading : Type 0 where
@@ -240,10 +237,9 @@ pub record Setting : Type 0 where
 
 module _ (c : Setting) where
   -- first the type (8), then the other bits (9), both at the header
-  abbrev pub heading_by : ℕ → Bool → Announced → Reads Heading
-  heading_by place mark (form f) = return (record { place = place; form = f; new_line = mark })
-  heading_by place mark wrong_type = refuse BadType Record place
-  heading_by place mark wrong_bits = refuse BadBits Record place
+  abbrev pub heading_by : ℕ → Bool → Result Form Reason → Reads Heading
+  heading_by place mark (Ok f) = return (record { place = place; form = f; new_line = mark })
+  heading_by place mark (Err why) = refuse why Record place
 
   unfoldable pub heading_of : ℕ → ℕ → Reads Heading
   heading_of place h = heading_by place (is_nonzero (h / bit 31)) (announced (h % bit 8) (h / bit 8 % bit 23))
@@ -351,7 +347,7 @@ module _ (c : Setting) where
   content one start l is_char = below c.size Record 4 codepoint_end BadContent >>= λ n. add start l (char n)
   content one start l is_integer = any_word c.size Record >>= λ n. add start l (integer (signed n))
   content one start l is_float = add_float start l
-  content one start l (is_text k u) = add_text start l k u
+  content one start l (is_text k u) = add_text start l k (width u)
   content one start l (is_list k) = add_list one start l k
   content one start l (is_object w) = add_object one start l w
   content one start l (shares_text k) = word c.size Record >>= λ n. add_share start l (ShareText k n)

@@ -1,12 +1,20 @@
 // The file format of documents: what a file means, and the one file that stands for given steps.
 #![tactic(auto)]
 
-ghost use Rattle.redbin.specs.Promises.{CanonicalReadsBack, CanonicalTellsApart, LoadIsLawful, MemoryDecidesRoomAlone, LoadAcceptsWhatFits, LoadGivesFileSteps, PathsLead};
+ghost use Rattle.redbin.specs.Promises.{HeadersReadBack, CanonicalReadsBack, CanonicalTellsApart, LoadIsLawful, MemoryDecidesRoomAlone, LoadAcceptsWhatFits, LoadGivesFileSteps, PathsLead};
 ghost use Rattle.redbin.specs.Examples.{Examples};
 
 pub mod form;
+pub mod header;
+pub mod layout;
+pub mod width;
 
 // The functions below hold no code: their contracts are what holds of the definitions.
+
+// The header that is written for a form announces that form.
+pub fn headers_read_back()
+    ensures { HeadersReadBack }
+{}
 
 // The canonical form is read back as the steps that it was written for.
 pub fn canonical_reads_back()

@@ -16,9 +16,12 @@ impl fmt::Display for Part {
 // `refused`, the reason's number, the part and the place.
 impl fmt::Display for Refusal {
     fn fmt<W: fmt::Write>(&self, f: &mut fmt::Formatter<W>) -> fmt::Result {
-        let number = self.reason.number();
-        let part = self.part;
-        let place = self.place;
-        write!(f, "refused {number} {part} {place}")
+        write!(
+            f,
+            "refused {} {} {}",
+            self.reason.number(),
+            self.part,
+            self.place
+        )
     }
 }

@@ -46,9 +46,9 @@ indexed_found o start end name i bytes e h names (inl b) z = blind_word o i _ b
 indexed_found o start end name i bytes e h names (inr t) z = ap (λ j. extend o (words (j ∷ []))) (h names (e ∙ t.stands) t.clean z)
 
 -- no strings stand at places that are out of order
-pub indexed_off : (o : Output) (start end : ℕ) (name : Name) (i : ℕ) → (start ≤ end → end ≤ length o.memory → end ≤ full → ⊥) → Indexed o start end name i
+pub indexed_off : (o : Output) (start end : ℕ) (name : Name) (i : ℕ) → (start ≤ end → end ≤ length o.memory → ⊥) → Indexed o start end name i
 indexed_off o start end name i h names (inl b) z = blind_word o i _ b
-indexed_off o start end name i h names (inr t) z = absurd (h t.ordered t.inside t.low)
+indexed_off o start end name i h names (inr t) z = absurd (h t.ordered t.inside)
 
 -- ---- more bytes leave the strings where they stand
 

@@ -1,29 +1,26 @@
 -- From a value up through its holders.
-use Rattle.std.proofs.Common.{◌≡◌, ℕ, zero, suc, ◌+◌, ◌-◌, ◌<◌, ◌≤◌, List, [], ◌∷◌, ◌++◌, length, sym, refl, ap, ◌∙◌, subst, add-one, arith, length-append, length-take}
+use Rattle.std.proofs.Common.{◌≡◌, ℕ, ◌+◌, ◌<◌, ◌≤◌, List, [], ◌∷◌, ◌++◌, length, sym, ap, ◌∙◌, subst, arith, length-append, length-take}
 use Rattle.steps.specs.declared.parts.Node.{Node}
 use Rattle.steps.specs.declared.parts.Node.TheVariants.{Root, At}
-use Rattle.steps.specs.Outline.{Entry, values, path_to}
+use Rattle.steps.specs.Outline.{Entry, values, inner, inner_names, path_to}
 use Rattle.document.specs.declared.store.Store.{Store}
-use Rattle.document.specs.Standing.{standing, Kept}
+use Rattle.document.specs.Standing.{standing}
 use Rattle.document.proofs.Reading.{count_is}
 use Rattle.redbin.proofs.Paths.{Sound}
 use Rattle.redbin.specs.Bytes.{words}
+use Rattle.redbin.specs.Layout.{reference_header}
 use Rattle.redbin.specs.Canonical.{reference}
 use Rattle.save.specs.Sinks.{Output, Gained}
-use Rattle.save.proofs.Runs.{fields_then}
-use Rattle.save.specs.Values.{above, climbed, place_of, last_place, There, first_inner}
-use Rattle.save.proofs.Sane.{Under, under_more, above_under, path_above}
+use Rattle.save.proofs.Runs.{fields_none, fields_then}
+use Rattle.save.specs.Values.{oldest, above, place_of, There, first_inner}
+use Rattle.save.proofs.Sane.{Under, under_more, above_under, path_above, inner_length}
 
-pub count_below : (s : Store) → Kept s → length (values (standing s)) ≤ 16384
-count_below s k = omega (arith, count_is s k, length-take s.cells.used s.cells.memory.now, k.cells_sound.1, k.cells_bound)
+pub count_below : (s : Store) → length (values (standing s)) ≤ 16384
+count_below s = omega (arith, count_is s, length-take s.cells.used s.cells.memory.now, s.cells.bounded, s.cells_bound)
 
 pub under_first : (n : ℕ) (h : Node) → Under n h → first_inner h ≤ n
 under_first n Root u = omega arith
 under_first n (At h) u = omega arith
-
-pub first_under : (n : ℕ) (h : Node) → first_inner h ≤ n → Under n h
-first_under n Root u = tt
-first_under n (At h) u = omega arith
 
 pub under_there : (xs : List Entry) (h : Node) → Under (length xs) h → There xs h
 under_there xs Root u = tt
@@ -34,63 +31,46 @@ module _ (xs : List Entry) (s : Sound xs) where
   there_above Root h = tt
   there_above (At n) h = under_there xs (above xs (At n)) (under_more n (length xs) (above xs (At n)) (omega arith) (above_under xs s n h))
 
-  pub there_climbed : (k : ℕ) (t : Node) → There xs t → There xs (climbed xs k t)
-  there_climbed zero t h = h
-  there_climbed (suc k) t h = there_above (climbed xs k t) (there_climbed k t h)
-
   pub first_above : (n : ℕ) → n < length xs → first_inner (above xs (At n)) ≤ n
   first_above n h = under_first n (above xs (At n)) (above_under xs s n h)
-
-  -- a path goes on from that of the holder
-  pub way_above : (t : Node) → There xs t → path_to xs t ≡ path_to xs (above xs t) ++ last_place xs t
-  way_above Root h = refl
-  way_above (At n) h = path_above xs s n h
 
   pub way_length : (n : ℕ) → n < length xs → length (path_to xs (At n)) ≡ length (path_to xs (above xs (At n))) + 1
   way_length n h = ap length (path_above xs s n h) ∙ length-append (path_to xs (above xs (At n))) (place_of xs n ∷ [])
 
-  pub climb_more : (k : ℕ) (a b t : Node) → a ≡ climbed xs k t → b ≡ above xs a → b ≡ climbed xs (k + 1) t
-  climb_more k a b t e f = f ∙ ap (above xs) e ∙ ap (λ i. climbed xs i t) (sym (add-one k))
-
-  -- the way down to the node one holder nearer
-  pub way_down : (k : ℕ) (t : Node) → There xs t → 0 < k → path_to xs (climbed xs (k - 1) t) ≡ path_to xs (climbed xs k t) ++ last_place xs (climbed xs (k - 1) t)
-  way_down zero t h l = absurd (omega arith)
-  way_down (suc k) t h l =
-      let e : k ≡ suc k - 1 = omega arith in
-      subst (λ i. path_to xs (climbed xs i t) ≡ path_to xs (climbed xs (suc k) t) ++ last_place xs (climbed xs i t)) e (way_above (climbed xs k t) (there_climbed k t h))
-
--- this node is so many holders up, and the rest of the way leads to it
-abbrev pub Up : List Entry → Node → Node → ℕ → Type 0
-Up xs t a d = (a ≡ climbed xs d t) × There xs a × (length (path_to xs t) ≡ d + length (path_to xs a)) × (d + first_inner a ≤ first_inner t)
-
-module _ (xs : List Entry) (s : Sound xs) (t : Node) where
-  pub up_none : There xs t → Up xs t t 0
-  up_none h = (refl, h, omega arith, omega arith)
-
-  pub up_more : (a b : Node) (d n : ℕ) → a ≡ At n → b ≡ above xs a → Up xs t a d → Up xs t b (d + 1)
-  up_more a b d n e f u =
-      let g : b ≡ above xs (At n) = f ∙ ap (above xs) e in
-      let h : n < length xs = subst (There xs) e u.1 in
-      let l : length (path_to xs (At n)) ≡ length (path_to xs b) + 1 = way_length xs s n h ∙ ap (λ z. length (path_to xs z) + 1) (sym g) in
-      let m : first_inner b ≤ n = subst (λ z. first_inner z ≤ n) (sym g) (first_above xs s n h) in
-      (climb_more xs s d a b t u.0 f, subst (There xs) (sym f) (there_above xs s a u.1), omega (arith, u.2, l, ap (λ z. length (path_to xs z)) e), omega (arith, m, u.3, ap first_inner e))
-
-  pub up_less : (a b : Node) (n : ℕ) → a ≡ At n → b ≡ above xs a → There xs a → first_inner b < first_inner a
-  up_less a b n e f u =
+  -- a holder comes before what it holds, and is there
+  pub above_less : (a b : Node) (n : ℕ) → a ≡ At n → b ≡ above xs (At n) → There xs a → (first_inner b < first_inner a) × There xs b
+  above_less a b n e g u =
       let h : n < length xs = subst (There xs) e u in
-      let g : b ≡ above xs (At n) = f ∙ ap (above xs) e in
-      omega (arith, ap first_inner e, ap first_inner g, first_above xs s n h)
+      (omega (arith, ap first_inner e, ap first_inner g, first_above n h), subst (There xs) (sym (g ∙ ap (above xs) (sym e))) (there_above a u))
 
-  pub up_fits : (a : Node) (d n : ℕ) → a ≡ At n → Up xs t a d → There xs t → length xs ≤ 16384 → d + 1 ≤ 16384
-  up_fits a d n e u h l = omega (arith, u.3, ap first_inner e, low t h) where
-    low : (t : Node) → There xs t → first_inner t ≤ length xs
-    low Root h = omega arith
-    low (At m) h = omega arith
+  pub first_kept : (a b : Node) (n : ℕ) → a ≡ At n → b ≡ above xs (At n) → There xs a → (n < length xs) × (first_inner b ≤ n)
+  first_kept a b n e g u =
+      let h : n < length xs = subst (There xs) e u in
+      (h, subst (λ z. first_inner z ≤ n) (sym g) (first_above n h))
 
-  pub up_root : (a : Node) (d : ℕ) → a ≡ Root → Up xs t a d → (d ≡ length (path_to xs t)) × (path_to xs (climbed xs d t) ≡ [])
-  up_root a d e u = (omega (arith, u.2, ap (λ z. length (path_to xs z)) e), ap (path_to xs) (sym u.0 ∙ e))
+  -- a path has one place more than that of the holder
+  pub path_more : (a b : Node) (n d : ℕ) → a ≡ At n → b ≡ above xs (At n) → There xs a → d ≡ length (path_to xs b) → d + 1 ≡ length (path_to xs a)
+  path_more a b n d e g u i =
+      let h : n < length xs = subst (There xs) e u in
+      omega (arith, way_length n h, ap (λ z. length (path_to xs z)) e, ap (λ z. length (path_to xs z)) g, i)
 
--- the parts of a reference
-pub referred : {S : Type 0} (f : S → Output) (s t u : S) (d : ℕ) (p q : List ℕ) → Gained f s (words (255 ∷ d ∷ [])) t → d ≡ length p → Gained f t (words q) u → q ≡ p → Gained f s (words (reference p)) u
-referred f s t u d p q g e h i =
-    fields_then f 4 s t u (255 ∷ length p ∷ []) p (subst (λ n. Gained f s (words (255 ∷ n ∷ [])) t) e g) (subst (λ r. Gained f t (words r) u) i h)
+  pub first_low : (t : Node) → There xs t → first_inner t ≤ length xs
+  first_low Root h = omega arith
+  first_low (At m) h = omega arith
+
+module _ {S : Type 0} (f : S → Output) where
+  -- the path of a holder, and the place in it
+  pub path_then : (xs : List Entry) → Sound xs → (s t u : S) (a b : Node) (n k : ℕ) → a ≡ At n → b ≡ above xs (At n) → There xs a → Gained f s (words (path_to xs b)) t
+      → k ≡ length (inner_names (oldest n xs) b) → Gained f t (words (k ∷ [])) u → Gained f s (words (path_to xs a)) u
+  path_then xs sound s t u a b n k e c r g i w =
+      let l : n < length xs = subst (There xs) e r in
+      let p : k ≡ place_of xs n = i ∙ inner_length (oldest n xs) b ∙ ap (λ z. length (inner (oldest n xs) z)) c in
+      let q : path_to xs a ≡ path_to xs b ++ k ∷ [] = ap (path_to xs) e ∙ path_above xs sound n l ∙ ap (λ z. path_to xs z ++ place_of xs n ∷ []) (sym c) ∙ ap (λ m. path_to xs b ++ m ∷ []) (sym p) in
+      subst (λ ns. Gained f s (words ns) u) (sym q) (fields_then f 4 s t u (path_to xs b) (k ∷ []) g w)
+
+  pub path_none : (xs : List Entry) (s : S) (a : Node) → a ≡ Root → Gained f s (words (path_to xs a)) s
+  path_none xs s a e = subst (λ z. Gained f s (words (path_to xs z)) s) (sym e) (fields_none f 4 s)
+
+  -- the parts of a reference
+  pub referred : (s t u : S) (d : ℕ) (p : List ℕ) → Gained f s (words (reference_header ∷ d ∷ [])) t → d ≡ length p → Gained f t (words p) u → Gained f s (words (reference p)) u
+  referred s t u d p g e h = fields_then f 4 s t u (reference_header ∷ length p ∷ []) p (subst (λ n. Gained f s (words (reference_header ∷ n ∷ [])) t) e g) h

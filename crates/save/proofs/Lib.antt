@@ -1,6 +1,5 @@
 pub mod Outputs
 pub mod Runs
-pub mod Texts
 pub mod Recorded
 pub mod Oldest
 pub mod Sane
@@ -16,3 +15,5 @@ pub mod Symboled
 pub mod Filed
 pub mod Cleaned
 pub mod Whole
+pub mod Numbered
+pub mod Found

@@ -1,8 +1,8 @@
 -- What more bytes leave.
-use Rattle.std.proofs.Common.{◌≡◌, ℕ, suc, ◌+◌, ◌/◌, ◌%◌, ◌<◌, ◌≤◌, min, true, false, ltb, List, [], ◌∷◌, ◌++◌, length, get_or, take, set, sym, refl, ap, ◌∙◌, ⊎_elim, arith}
+use Rattle.std.proofs.Common.{◌≡◌, ℕ, ◌+◌, ◌<◌, ◌≤◌, min, true, false, ltb, List, [], ◌∷◌, ◌++◌, length, get_or, take, set, sym, refl, ap, ◌∙◌, ⊎_elim, arith}
 use Rattle.std.proofs.lemmas.Bool.{lt-ltb, le-ltb, cases_lt}
 use Rattle.std.proofs.lemmas.List.{take_more, take_all, replicate_more, set_past}
-use Rattle.redbin.specs.Bytes.{bytes_of, zeros}
+use Rattle.redbin.specs.Bytes.{zeros}
 use Rattle.save.specs.Sinks.{Output, full, push, extend, Gained}
 
 pub extend_append : (o : Output) (xs ys : List ℕ) → extend o (xs ++ ys) ≡ extend (extend o xs) ys
@@ -14,9 +14,9 @@ pub extend_none : (o : Output) → extend o [] ≡ o
 unfolding extend
 extend_none o = refl
 
-pub extend_first : (o : Output) (x : ℕ) (xs : List ℕ) → extend o (x ∷ xs) ≡ extend (push o x) xs
-unfolding extend
-extend_first o x xs = refl
+-- more bytes behind the first ones
+pub extend_then : (o p : Output) (xs ys : List ℕ) → p ≡ extend o xs → extend p ys ≡ extend o (xs ++ ys)
+extend_then o p xs ys e = ap (λ q. extend q ys) e ∙ sym (extend_append o xs ys)
 
 module _ {S : Type 0} (f : S → Output) where
   pub gained_none : (s : S) → Gained f s [] s
@@ -45,17 +45,9 @@ module _ {S : Type 0} (f : S → Output) where
   pub zeros_more : (s t u : S) (n : ℕ) → Gained f s (zeros n) t → f u ≡ push (f t) 0 → Gained f s (zeros (n + 1)) u
   zeros_more s t u n g h = rw (← replicate_more {X = ℕ} n 0) (gained_push s t u (zeros n) 0 g h)
 
-pub number_step : (o p : Output) (k j n : ℕ) → k ≡ suc j → p ≡ push o (n % 256) → extend p (bytes_of j (n / 256)) ≡ extend o (bytes_of k n)
-unfolding extend bytes_of
-number_step o p k j n e h = rw (e, h)
-
 -- a byte past the end of the memory is only counted
 pub push_past : (o : Output) (b : ℕ) → o.size < full → length o.memory ≤ o.size → push o b ≡ record { home = o.home; size = o.size + 1; memory = o.memory }
 push_past o b h l = push_low o b h ∙ ap (λ m. record { home = o.home; size = o.size + 1; memory = m }) (set_past o.memory o.size b l)
-
-pub number_none : (o : Output) (k n : ℕ) → k ≡ 0 → extend o (bytes_of k n) ≡ o
-unfolding extend bytes_of
-number_none o k n e = rw e
 
 -- where the output is full nothing changes
 pub extend_full : (o : Output) (xs : List ℕ) → full ≤ o.size → extend o xs ≡ o

@@ -3,7 +3,7 @@ use Rattle.std.proofs.Common.{◌≡◌, ℕ, suc, ◌+◌, ◌-◌, ◌<◌, �
 use Rattle.steps.specs.declared.parts.Node.{Node}
 use Rattle.steps.specs.declared.parts.Share.{Share}
 use Rattle.steps.specs.Steps.{Tag, Begun, share, begin, close, Steps}
-use Rattle.steps.specs.Outline.{Entry, values, entry_at, begun_at, label_in}
+use Rattle.steps.specs.Outline.{Entry, values, entry_at, begun_at}
 use Rattle.steps.proofs.Entered.{begun_in, begun_entry, entry_first, entry_later}
 use Rattle.redbin.specs.Canonical.{record_of, payload}
 use Rattle.save.specs.Sinks.{Output, full, Gained}
@@ -15,29 +15,17 @@ use Rattle.save.proofs.Sane.{Fine, Target, oldest_later}
 
 -- ---- one value
 
-recorded_if : (all : List Entry) (n place : ℕ) (o : Option Entry) (l : Tag) (b : Begun) → label_in o ≡ Some l → begun_in o ≡ Some b → record_of all (oldest n all) place l b ≡ recorded all n place o
-recorded_if all n place None l b e f = absurd (let z : ◌≡◌ {A = ℕ} 0 1 = cc in omega arith)
-recorded_if all n place (Some x) l b e f =
-    let p : x.label ≡ l = cc in
-    let q : x.begun ≡ b = cc in
-    sym (ap (λ t. record_of all (oldest n all) place t x.begun) p ∙ ap (record_of all (oldest n all) place l) q)
-
-pub recorded_as : (all : List Entry) (n place : ℕ) (l : Tag) (b : Begun) → label_in (entry_at all n) ≡ Some l → begun_at all n ≡ Some b → record_of all (oldest n all) place l b ≡ recorded all n place (entry_at all n)
-recorded_as all n place l b e f = recorded_if all n place (entry_at all n) l b e (sym (begun_entry all n) ∙ f)
-
-none_if : (o : Option Entry) → begun_in o ≡ None → o ≡ None
-none_if None e = refl
-none_if (Some x) e = absurd (let z : ◌≡◌ {A = ℕ} 0 1 = cc in omega arith)
-
 module _ {S : Type 0} (f : S → Output) (all : List Entry) (n : ℕ) (place : ℕ) (s : S) where
-  pub none_label : entry_at all n ≡ None → Gained f s (recorded all n place (entry_at all n)) s
-  none_label e = subst (λ o. Gained f s (recorded all n place o) s) (sym e) (gained_none f s)
+  pub none_recorded : None ≡ entry_at all n → Gained f s (recorded all n place (entry_at all n)) s
+  none_recorded e = subst (λ o. Gained f s (recorded all n place o) s) e (gained_none f s)
 
-  pub none_begun : begun_at all n ≡ None → Gained f s (recorded all n place (entry_at all n)) s
-  none_begun e = none_label (none_if (entry_at all n) (sym (begun_entry all n) ∙ e))
+  pub some_recorded : (t : S) (x : Entry) (l : Tag) (b : Begun) → Some x ≡ entry_at all n → x.label ≡ l → x.begun ≡ b → Gained f s (record_of all (oldest n all) place l b) t → Gained f s (recorded all n place (entry_at all n)) t
+  some_recorded t x l b e c d g =
+      let h : record_of all (oldest n all) place l b ≡ recorded all n place (entry_at all n) = sym (ap (λ k. record_of all (oldest n all) place k x.begun) c ∙ ap (record_of all (oldest n all) place l) d) ∙ ap (recorded all n place) e in
+      subst (λ bs. Gained f s bs t) h g
 
-  pub some_begun : (t : S) (l : Tag) (b : Begun) → label_in (entry_at all n) ≡ Some l → begun_at all n ≡ Some b → Gained f s (record_of all (oldest n all) place l b) t → Gained f s (recorded all n place (entry_at all n)) t
-  some_begun t l b e d g = subst (λ bs. Gained f s bs t) (recorded_as all n place l b e d) g
+pub some_begun : (all : List Entry) (n : ℕ) (x : Entry) → Some x ≡ entry_at all n → begun_at all n ≡ Some x.begun
+some_begun all n x e = begun_entry all n ∙ ap begun_in (sym e)
 
 target_here : (xs : List Entry) (o : Option Begun) (x : Entry) (s : Share) (t : Node) → Target xs x.begun → o ≡ Some (share s t) → o ≡ Some x.begun → There xs t
 target_here xs o x s t h e d =

@@ -1,5 +1,5 @@
 -- What holds of the values of lawful steps.
-use Rattle.std.proofs.Common.{◌≡◌, ℕ, suc, ◌+◌, ◌-◌, ◌<◌, ◌≤◌, Bool, true, false, cond, ◌&&◌, eqb, ltb, leb, List, [], ◌∷◌, ◌++◌, length, Some, sym, refl, ap, ◌∙◌, subst, ⊎_elim, arith, length-append}
+use Rattle.std.proofs.Common.{◌≡◌, ℕ, suc, ◌+◌, ◌-◌, ◌<◌, ◌≤◌, Bool, true, false, cond, unwrap_or, ◌&&◌, eqb, ltb, leb, List, [], ◌∷◌, ◌++◌, length, Some, sym, refl, ap, ◌∙◌, subst, ⊎_elim, arith, length-append}
 use Rattle.std.proofs.lemmas.Bool.{eq-eqb, ne_eqb, eqb-true, and_parts, cases_lt}
 use Rattle.std.proofs.lemmas.List.{append-nil}
 use Rattle.steps.specs.declared.parts.Node.{Node}
@@ -10,10 +10,10 @@ use Rattle.steps.specs.Outline.{Entry, Opened, values, opened, in_object, entry_
 use Rattle.steps.specs.Law.{Memory, Lawful, name_ok, begun_ok, share_ok}
 use Rattle.steps.proofs.Entered.{entry_first, entry_later}
 use Rattle.document.specs.declared.store.Store.{Store}
-use Rattle.document.specs.Standing.{standing, memory_lent, Kept}
+use Rattle.document.specs.Standing.{standing, memory_lent}
 use Rattle.redbin.proofs.Paths.{Sound, Held, outline_sound, suits_own, path_later}
 use Rattle.redbin.proofs.Whole.{allowed}
-use Rattle.save.specs.Values.{oldest, name_in, or_root, above, place_of, There, first_inner}
+use Rattle.save.specs.Values.{oldest, name_in, above, place_of, There, first_inner}
 use Rattle.save.proofs.Oldest.{either, drop_one, drop_none, inner_none, length_oldest}
 
 -- the target of a share was begun before it
@@ -49,8 +49,8 @@ lawful_fine m (begin t b ∷ e) l =
     (lawful_fine m e l.0, target_fine (values e) b a.begun, none_zero (opened e) t.name a.name)
 lawful_fine m (close ∷ e) l = lawful_fine m e l.0
 
-pub kept_fine : (s : Store) → Kept s → Fine (values (standing s))
-kept_fine s k = lawful_fine (memory_lent s) (standing s) k.stands.lawful
+pub kept_fine : (s : Store) → Fine (values (standing s))
+kept_fine s = lawful_fine (memory_lent s) (standing s) s.stands.lawful
 
 pub kept_sound : (s : Store) → Sound (values (standing s))
 kept_sound s = (outline_sound (standing s)).0
@@ -66,10 +66,10 @@ under_more n m Root l u = tt
 under_more n m (At h) l u = omega arith
 
 above_first : (x : Entry) (xs : List Entry) → above (x ∷ xs) (At (length xs)) ≡ x.holder
-above_first x xs = ap (λ o. or_root (holder_in o)) (entry_first xs x)
+above_first x xs = ap (λ o. unwrap_or (holder_in o) Root) (entry_first xs x)
 
 above_later : (x : Entry) (xs : List Entry) (n : ℕ) → n < length xs → above (x ∷ xs) (At n) ≡ above xs (At n)
-above_later x xs n l = ap (λ o. or_root (holder_in o)) (entry_later xs x n l)
+above_later x xs n l = ap (λ o. unwrap_or (holder_in o) Root) (entry_later xs x n l)
 
 held_under : (xs : List Entry) (h : Node) → Held xs h → Under (length xs) h
 held_under xs Root k = tt

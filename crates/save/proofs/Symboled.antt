@@ -1,16 +1,18 @@
--- The symbol table, one name more.
-use Rattle.std.proofs.Common.{◌≡◌, ℕ, suc, ◌+◌, ◌≤◌, List, [], ◌∷◌, ◌++◌, length, sym, refl, ap, ◌∙◌, subst, append_assoc, arith, length-append}
-use Rattle.std.proofs.lemmas.List.{append-nil}
+-- The symbol table, name after name.
+use Rattle.std.proofs.Common.{◌≡◌, ℕ, suc, ◌+◌, ◌≤◌, List, [], ◌∷◌, Bool, true, false, cond, length, filter, not, take, sym, ap, ◌∙◌, subst, arith, length-append}
+use Rattle.std.specs.List.{enumerate_from}
+use Rattle.std.proofs.lemmas.List.{length-map}
+use Rattle.std.proofs.lemmas.List.FromFn.{length-enumerate_from}
 use Rattle.steps.specs.Steps.{Name}
 use Rattle.steps.specs.Outline.{Entry}
-use Rattle.redbin.specs.Bytes.{words, fill, zeros}
-use Rattle.redbin.specs.Canonical.{stored, strings, offsets, once, symbols}
-use Rattle.save.specs.Sinks.{Output, Gained}
-use Rattle.save.specs.Names.{in_order, first_once}
-use Rattle.save.proofs.Outputs.{gained_none, gained_then}
-use Rattle.save.proofs.Runs.{fields_none, fields_then}
+use Rattle.redbin.specs.Bytes.{bytes_of, words, fields, fill, zeros}
+use Rattle.redbin.specs.Canonical.{stored, strings, offsets, symbols}
+use Rattle.save.specs.Sinks.{Output, extend, Gained}
+use Rattle.save.specs.Names.{listed, in_order}
+use Rattle.save.proofs.Outputs.{extend_none, extend_then, gained_then}
+use Rattle.save.proofs.Runs.{fields_one}
 use Rattle.save.proofs.Stored.{length_stored}
-use Rattle.save.proofs.Onces.{first_prefix}
+use Rattle.save.proofs.Onces.{fresh_symbols}
 
 zeros_first : (n k : ℕ) → n ≡ 1 + k → zeros n ≡ 0 ∷ zeros k
 zeros_first n k e = let d : n ≡ suc k = omega arith in ap zeros d
@@ -18,65 +20,39 @@ zeros_first n k e = let d : n ≡ suc k = omega arith in ap zeros d
 pub stored_parts : {S : Type 0} (f : S → Output) (s t u : S) (n : Name) (k : ℕ) → k ≡ 1 + fill 8 (length n + 1) → Gained f s n t → Gained f t (zeros k) u → Gained f s (stored n) u
 stored_parts f s t u n k e g h = gained_then f s t u n (0 ∷ zeros (fill 8 (length n + 1))) g (subst (λ z. Gained f t z u) (zeros_first k _ e) h)
 
-strings_push : (ns : List Name) (n : Name) → strings (ns ++ n ∷ []) ≡ strings ns ++ stored n
+module _ (o p : Output) (left rest : List Name) where
+  -- with the strings that are left the whole was written, also behind one more, and where none is left
+  pub strings_next : (n : Name) → left ≡ n ∷ rest → p ≡ extend o (stored n) → extend p (strings rest) ≡ extend o (strings left)
+  unfolding strings
+  strings_next n e g = extend_then o p (stored n) (strings rest) g ∙ ap (λ ns. extend o (strings ns)) (sym e)
+
+  pub offsets_next : (n : Name) (k j : ℕ) → left ≡ n ∷ rest → j ≡ k + length (stored n) → p ≡ extend o (words (k ∷ [])) → extend p (words (offsets j rest)) ≡ extend o (words (offsets k left))
+  unfolding offsets fields
+  offsets_next n k j e d g = ap (λ i. extend p (words (offsets i rest))) d ∙ extend_then o p (bytes_of 4 k) (words (offsets (k + length (stored n)) rest)) (g ∙ ap (extend o) (fields_one 4 k)) ∙ ap (λ ns. extend o (words (offsets k ns))) (sym e)
+
+pub strings_end : (o : Output) (left : List Name) → left ≡ [] → extend o (strings left) ≡ o
 unfolding strings
-strings_push [] n = append-nil (stored n)
-strings_push (m ∷ ns) n = ap (λ xs. stored m ++ xs) (strings_push ns n) ∙ sym (append_assoc (stored m) (strings ns) (stored n))
+strings_end o left e = ap (λ ns. extend o (strings ns)) e ∙ extend_none o
 
-strings_none : strings [] ≡ []
+pub offsets_end : (o : Output) (k : ℕ) (left : List Name) → left ≡ [] → extend o (words (offsets k left)) ≡ o
+unfolding offsets fields
+offsets_end o k left e = ap (λ ns. extend o (words (offsets k ns))) e ∙ extend_none o
+
+-- how long the strings are that are left
+pub length_next : (n : Name) (left rest : List Name) → left ≡ n ∷ rest → length (strings left) ≡ length n + (1 + fill 8 (length n + 1)) + length (strings rest)
 unfolding strings
-strings_none = refl
+length_next n left rest e = ap (λ ns. length (strings ns)) e ∙ omega (arith, length-append (stored n) (strings rest), length_stored n)
 
-offsets_push : (o : ℕ) (ns : List Name) (n : Name) → offsets o (ns ++ n ∷ []) ≡ offsets o ns ++ (o + length (strings ns)) ∷ []
-unfolding offsets strings
-offsets_push o [] n = let e : o ≡ o + 0 = omega arith in ap (λ k. k ∷ []) e
-offsets_push o (m ∷ ns) n =
-    let e : o + length (stored m) + length (strings ns) ≡ o + length (strings (m ∷ ns)) = omega (arith, length-append (stored m) (strings ns)) in
-    ap (λ xs. o ∷ xs) (offsets_push (o + length (stored m)) ns n ∙ ap (λ k. offsets (o + length (stored m)) ns ++ k ∷ []) e)
+-- there are no more symbols than names
+filter_few : {X : Type 0} (p : X → Bool) (xs : List X) → length (filter p xs) ≤ length xs
+filter_few p [] = omega arith
+filter_few p (x ∷ xs) = go (p x) (filter_few p xs) where
+  go : (b : Bool) → length (filter p xs) ≤ length xs → length (cond b (x ∷ filter p xs) (filter p xs)) ≤ suc (length xs)
+  go true h = omega arith
+  go false h = omega arith
 
-offsets_none : (o : ℕ) → offsets o [] ≡ []
-unfolding offsets
-offsets_none o = refl
-
-once_none : once [] ≡ []
-unfolding once
-once_none = refl
-
-pub once_start : (all : List Entry) → first_once all 0 ≡ []
-once_start all = once_none
-
-pub symbols_all : (all : List Entry) → once (in_order all) ≡ symbols all
-unfolding symbols
-symbols_all all = refl
-
-module _ {S : Type 0} (f : S → Output) where
-  pub strings_start : (all : List Entry) (s : S) → Gained f s (strings (first_once all 0)) s
-  strings_start all s = subst (λ ns. Gained f s ns s) (sym (ap strings (once_start all) ∙ strings_none)) (gained_none f s)
-
-  pub strings_more : (s t u : S) (ns ms : List Name) (n : Name) → ms ≡ ns ++ n ∷ [] → Gained f s (strings ns) t → Gained f t (stored n) u → Gained f s (strings ms) u
-  strings_more s t u ns ms n e g h = subst (λ xs. Gained f s xs u) (sym (ap strings e ∙ strings_push ns n)) (gained_then f s t u (strings ns) (stored n) g h)
-
-  pub offsets_start : (all : List Entry) (s : S) → Gained f s (words (offsets 0 (first_once all 0))) s
-  offsets_start all s = subst (λ ns. Gained f s (words ns) s) (sym (ap (offsets 0) (once_start all) ∙ offsets_none 0)) (fields_none f 4 s)
-
-  pub offsets_more : (s t u : S) (ns ms : List Name) (n : Name) (o : ℕ) → ms ≡ ns ++ n ∷ [] → o ≡ length (strings ns) → Gained f s (words (offsets 0 ns)) t → Gained f t (words (o ∷ [])) u → Gained f s (words (offsets 0 ms)) u
-  offsets_more s t u ns ms n o e d g h =
-      subst (λ xs. Gained f s (words xs) u) (sym (ap (offsets 0) e ∙ offsets_push 0 ns n ∙ ap (λ k. offsets 0 ns ++ k ∷ []) (omega (arith, d))))
-      (fields_then f 4 s t u (offsets 0 ns) (o ∷ []) g h)
-
-pub size_more : (ns ms : List Name) (n : Name) (o k : ℕ) → ms ≡ ns ++ n ∷ [] → o ≡ length (strings ns) → k ≡ 1 + fill 8 (length n + 1) → o + (length n + k) ≡ length (strings ms)
-size_more ns ms n o k e d h = omega (arith, ap (λ xs. length (strings xs)) e, ap length (strings_push ns n), length-append (strings ns) (stored n), length_stored n)
-
-strings_append : (ns ms : List Name) → strings (ns ++ ms) ≡ strings ns ++ strings ms
-unfolding strings
-strings_append [] ms = refl
-strings_append (n ∷ ns) ms = ap (λ xs. stored n ++ xs) (strings_append ns ms) ∙ sym (append_assoc (stored n) (strings ns) (strings ms))
-
--- the strings of the first names are no longer than all
-pub first_short : (all : List Entry) (k : ℕ) → length (strings (first_once all k)) ≤ length (strings (symbols all))
-first_short all k =
-    let r = first_prefix all k in
-    omega (arith, ap (λ xs. length (strings xs)) (sym (symbols_all all) ∙ r.1), ap length (strings_append (first_once all k) r.0), length-append (strings (first_once all k)) (strings r.0))
-
-pub string_start : (all : List Entry) → 0 ≡ length (strings (first_once all 0))
-string_start all = sym (ap (λ ns. length (strings ns)) (once_start all) ∙ ap length strings_none)
+pub symbols_few : (all : List Entry) → length (symbols all) ≤ length (in_order all)
+symbols_few all =
+    let test = λ (p : ℕ × Name). not (listed p.1 (take p.0 (in_order all))) in
+    let ps = enumerate_from 0 (in_order all) in
+    omega (arith, ap length (fresh_symbols all), length-map (filter test ps) (λ p. p.1), filter_few test ps, length-enumerate_from 0 (in_order all))

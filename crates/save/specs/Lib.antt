@@ -1,7 +1,11 @@
 pub mod Sinks
 pub mod Records
 pub mod Values
+pub mod Inners
 pub mod Symbols
 pub mod Names
+pub mod Left
+pub mod SymbolsLeft
+pub mod Payloads
 pub mod Saves
 pub mod Sizes

@@ -1,7 +1,6 @@
 -- What functions that write records ask.
-use Rattle.std.specs.Prelude.{◌≡◌, ℕ, ◌+◌, ◌≤◌, min, Bool, List, [], ◌∷◌, ◌++◌, length, Some, None, Option}
-use Rattle.redbin.specs.declared.form.Form.{Form}
-use Rattle.redbin.specs.declared.form.Form.TheVariants.{Nothing, Logic, Char, Integer, Float, Text, List as ListForm, Object, ShareText, ShareList, ShareObject}
+use Rattle.std.specs.Prelude.{◌≡◌, ℕ, ◌+◌, min, Bool, List, [], ◌∷◌, ◌++◌, length, Some, None, Option}
+use Rattle.redbin.specs.declared.form.Form.TheVariants.{ShareText, ShareList, ShareObject}
 use Rattle.steps.specs.declared.parts.Share.{Share}
 use Rattle.steps.specs.declared.parts.Share.TheVariants.{List as OfList, Text as OfText, Object as OfObject}
 use Rattle.steps.specs.Outline.{Entry}
@@ -9,20 +8,6 @@ use Rattle.redbin.specs.Layout.{header}
 use Rattle.redbin.specs.Canonical.{record_of}
 use Rattle.save.specs.Values.{oldest}
 use Rattle.save.specs.Sinks.{Output, full}
-
--- the unit of a text is one that codepoints can have
-abbrev pub Narrow : Form → Type 0
-Narrow Nothing = Unit {0}
-Narrow Logic = Unit {0}
-Narrow Char = Unit {0}
-Narrow Integer = Unit {0}
-Narrow Float = Unit {0}
-Narrow (Text k u) = u ≤ 4
-Narrow (ListForm k) = Unit {0}
-Narrow (Object w) = Unit {0}
-Narrow (ShareText k) = Unit {0}
-Narrow (ShareList k) = Unit {0}
-Narrow (ShareObject w) = Unit {0}
 
 -- the payload starts behind so many bytes, and has this many so far
 abbrev pub Placed : Output → ℕ → ℕ → Type 0

@@ -1,38 +1,32 @@
 -- Values by their number.
-use Rattle.std.specs.Prelude.{ℕ, zero, suc, ◌+◌, ◌-◌, ◌<◌, Bool, false, List, [], ◌∷◌, length, drop, Some, None, Option}
+use Rattle.std.specs.Prelude.{ℕ, ◌+◌, ◌-◌, ◌<◌, List, [], map, filter, length, drop, Some, None, Option, unwrap_or}
+use Rattle.std.specs.List.{range_with_len}
 use Rattle.steps.specs.declared.parts.Node.{Node}
 use Rattle.steps.specs.declared.parts.Node.TheVariants.{Root, At}
 use Rattle.steps.specs.Steps.{Name}
-use Rattle.steps.specs.Outline.{Entry, entry_at, holder_in, same_holder, inner}
+use Rattle.steps.specs.Outline.{Entry, entry_at, holder_in, held_by, inner}
 
 -- the first so many values
 abbrev pub oldest : ℕ → List Entry → List Entry
 oldest k xs = drop (length xs - k) xs
-
--- whether this holds a value, if there is one
-abbrev pub held_by : Option Entry → Node → Bool
-held_by None h = false
-held_by (Some x) h = same_holder x.holder h
 
 -- the name of a value, if there is one
 abbrev pub name_in : Option Entry → Name
 name_in None = []
 name_in (Some x) = x.label.name
 
--- what stands there, or else the root
-abbrev pub or_root : Option Node → Node
-or_root None = Root
-or_root (Some h) = h
+-- the names of values
+abbrev pub names_of : List Entry → List ℕ → List Name
+names_of xs ns = map (λ n. name_in (entry_at xs n)) ns
+
+-- those of so many numbers from `low` on whose values a holder holds directly
+abbrev pub inner_of : List Entry → Node → ℕ → ℕ → List ℕ
+inner_of xs h low count = filter (λ n. held_by (entry_at xs n) h) (range_with_len low count)
 
 -- what holds a node
 abbrev pub above : List Entry → Node → Node
 above xs Root = Root
-above xs (At n) = or_root (holder_in (entry_at xs n))
-
--- so many holders up
-abbrev pub climbed : List Entry → ℕ → Node → Node
-climbed xs zero t = t
-climbed xs (suc k) t = above xs (climbed xs k t)
+above xs (At n) = unwrap_or (holder_in (entry_at xs n)) Root
 
 -- how many values stand before this one in its holder
 abbrev pub place_of : List Entry → ℕ → ℕ
@@ -47,8 +41,3 @@ There xs (At n) = n < length xs
 abbrev pub first_inner : Node → ℕ
 first_inner Root = 0
 first_inner (At n) = n + 1
-
--- the last inner place on the way to a node
-abbrev pub last_place : List Entry → Node → List ℕ
-last_place xs Root = []
-last_place xs (At n) = place_of xs n ∷ []

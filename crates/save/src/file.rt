@@ -1,7 +1,7 @@
 // The file: the header, the symbol table, the payload.
 ghost use Rattle.std.specs.Prelude.{◌≡◌, ◌≤◌, [], ◌∷◌, ◌++◌, length, if◌then◌else◌, nat_lt};
 ghost use Rattle.steps.specs.Outline.{values};
-ghost use Rattle.document.specs.Standing.{standing, Kept};
+ghost use Rattle.document.specs.Standing.{standing};
 ghost use Rattle.redbin.specs.Bytes.{words};
 ghost use Rattle.redbin.specs.Layout.{letters, version};
 ghost use Rattle.redbin.specs.Canonical.{symbols, strings, table};
@@ -13,14 +13,7 @@ use crate::payload::payload;
 use crate::sink::{Counter, Sink, Strings};
 use crate::table::{offsets, strings};
 use document::store::Store;
-
-// How many bytes the header has.
-const HEADER: usize = 16;
-
-const VERSION: u8 = 2;
-
-// The flag of a file with a symbol table.
-const TABLE: u8 = 4;
+use redbin::layout::{FILE_HEADER_SIZE, LETTERS, TABLE_FLAG, VERSION};
 
 // How many names a document has, and how many bytes their strings and the payload have, as far as these can be counted.
 #[derive(Clone, Copy)]
@@ -30,54 +23,55 @@ pub struct Sizes {
     pub payload: usize,
 }
 
-pub fn measure(store: &Store<'_>) -> Sizes
-    requires { Kept store.now }
-    ensures { CountedSizes (standing store.now) result.count result.strings result.payload }
-{
-    let mut counter = Counter::new();
-    let count = strings(store, &mut counter);
-    let mut records = Counter::new();
-    payload(store, &mut records, Strings { start: 0, end: 0 });
-    Sizes {
-        count,
-        strings: counter.size(),
-        payload: records.size(),
+impl Sizes {
+    // Those of a document.
+    pub fn of(store: &Store<'_>) -> Sizes
+        ensures { CountedSizes (standing store.now) result.count result.strings result.payload }
+    {
+        let mut counter = Counter::new();
+        let count = strings(store, &mut counter);
+        let mut records = Counter::new();
+        payload(store, &mut records, Strings { start: 0, end: 0 });
+        Sizes {
+            count,
+            strings: counter.size(),
+            payload: records.size(),
+        }
     }
-}
 
-// How many bytes a file with such parts has.
-pub fn file_size(sizes: Sizes) -> usize
-    requires strings { sizes.strings ≤ full }
-    requires payload { sizes.payload ≤ full }
-    ensures { result ≡ file_size sizes.count sizes.strings sizes.payload }
-{
-    let table = if sizes.count > 0 {
-        8 + 4 * sizes.count as usize + sizes.strings
-    } else {
-        0
-    };
-    HEADER + table + sizes.payload
-}
+    // How many bytes a file with such parts has.
+    pub fn file_size(self) -> usize
+        requires strings { self.strings ≤ full }
+        requires payload { self.payload ≤ full }
+        ensures { result ≡ file_size self.count self.strings self.payload }
+    {
+        let table = if self.count > 0 {
+            8 + 4 * self.count as usize + self.strings
+        } else {
+            0
+        };
+        FILE_HEADER_SIZE + table + self.payload
+    }
 
-// The flags of a file with so many names.
-pub fn flags(count: u32) -> u8
-    ensures { result ≡ (if nat_lt 0 count then 4 else 0) }
-{
-    if count > 0 { TABLE } else { 0 }
+    // The flags of such a file.
+    pub fn flags(self) -> u8
+        ensures { result ≡ (if nat_lt 0 self.count then 4 else 0) }
+    {
+        if self.count > 0 { TABLE_FLAG } else { 0 }
+    }
 }
 
 // Writes the header of a file.
 pub fn heading<S: Sink>(sink: &mut S, flags: u8, roots: u32, payload: u32)
     ensures { Gained S.Sink.output sink.old (letters ++ (version ∷ flags ∷ words (roots ∷ payload ∷ []))) sink.new }
 {
-    bytes(sink, b"REDBIN");
+    bytes(sink, LETTERS);
     bytes(sink, &[VERSION, flags]);
     words(sink, &[roots, payload]);
 }
 
 // Writes the symbol table of so many names, whose strings have `size` bytes. Without names there is none.
 pub fn symbol_table<S: Sink>(store: &Store<'_>, sink: &mut S, count: u32, size: u32)
-    requires kept { Kept store.now }
     requires counted { count ≡ length (symbols (values (standing store.now))) }
     requires sized { size ≡ length (strings (symbols (values (standing store.now)))) }
     requires low { size ≤ full }

@@ -4,9 +4,10 @@ ghost use Rattle.save.specs.Sinks.{Output, push};
 ghost use Rattle.save.specs.Symbols.{Indexed};
 
 use crate::strings::index_in;
+use redbin::layout::LARGEST_FILE;
 
 // One byte more than the longest file. Where so many have gone, further bytes are dropped.
-const FULL: usize = 0x10_0001;
+const FULL: usize = LARGEST_FILE + 1;
 
 // Takes bytes, one after another.
 pub trait Sink {
@@ -20,7 +21,7 @@ pub trait Sink {
         ensures { result ≡ (output self.now).size };
 
     // The index of a name, as far as it matters here, where the strings of the symbol table have been written.
-    fn index(&self, table: Strings, name: &[u8]) -> u32
+    fn index(&self, table: Strings, name: &[u8]) -> usize
         ensures { Indexed (output self.now) table.start table.end name.now result };
 }
 
@@ -59,12 +60,13 @@ impl Sink for Counter {
         self.count
     }
 
-    fn index(&self, _table: Strings, _name: &[u8]) -> u32 {
+    fn index(&self, _table: Strings, _name: &[u8]) -> usize {
         0
     }
 }
 
 // Writes the bytes into memory that is lent, as far as it reaches.
+// How much is used stands beside the memory, since all memory is lent.
 #[derive(Drop)]
 pub struct Writer<'a> {
     memory: &'a mut [u8],
@@ -99,12 +101,11 @@ impl<'a> Sink for Writer<'a> {
         self.used
     }
 
-    fn index(&self, table: Strings, name: &[u8]) -> u32 {
+    fn index(&self, table: Strings, name: &[u8]) -> usize {
         let memory = &*self.memory;
-        let Strings { start, end } = table;
-        if start > end || end > memory.len() || end > FULL {
-            return 0;
+        match memory.get(table.start..table.end) {
+            Some(strings) => index_in(strings, name),
+            None => 0,
         }
-        index_in(&memory[start..end], name)
     }
 }

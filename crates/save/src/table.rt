@@ -1,22 +1,16 @@
 // The symbol table: each name once, where it first stands in the payload.
 ghost use Rattle.std.specs.Prelude.{◌≡◌, ◌+◌, ◌≤◌, length};
 ghost use Rattle.steps.specs.Outline.{values};
-ghost use Rattle.document.specs.Standing.{standing, Kept};
-ghost use Rattle.redbin.specs.Bytes.{words, fill};
+ghost use Rattle.document.specs.Standing.{standing};
+ghost use Rattle.redbin.specs.Bytes.{words};
 ghost use Rattle.redbin.specs.Canonical.{stored, strings, offsets, symbols};
 ghost use Rattle.save.specs.Sinks.{full, Gained};
 
 use crate::fields::{bytes, length, zeros};
-use crate::names::{START, next_symbol};
 use crate::sink::Sink;
+use crate::strings::zeros_after;
+use crate::symbols::Symbols;
 use document::store::Store;
-
-// How many zeros follow a name among the strings.
-fn zeros_after(name: &[u8]) -> u32
-    ensures { result ≡ 1 + fill 8 (length name.now + 1) }
-{
-    8 - (name.len() % 8) as u32
-}
 
 // Writes a name among the strings.
 fn store_name<S: Sink>(sink: &mut S, name: &[u8])
@@ -28,13 +22,12 @@ fn store_name<S: Sink>(sink: &mut S, name: &[u8])
 
 // Writes the strings, and says how many names they are.
 pub fn strings<S: Sink>(store: &Store<'_>, sink: &mut S) -> u32
-    requires { Kept store.now }
     ensures count { result ≡ length (symbols (values (standing store.now))) }
     ensures bytes { Gained S.Sink.output sink.old (strings (symbols (values (standing store.now)))) sink.new }
 {
-    let mut cursor = START;
+    // Counted beside: `count()` would find all symbols a second time, which takes longest.
     let mut count = 0;
-    while let Some(name) = next_symbol(store, &mut cursor) {
+    for name in Symbols::of(store) {
         store_name(sink, name);
         count += 1;
     }
@@ -43,14 +36,12 @@ pub fn strings<S: Sink>(store: &Store<'_>, sink: &mut S) -> u32
 
 // Writes where each name starts in the strings.
 pub fn offsets<S: Sink>(store: &Store<'_>, sink: &mut S)
-    requires kept { Kept store.now }
-    requires low { length (strings (symbols (values (standing store.now)))) ≤ full }
+    requires { length (strings (symbols (values (standing store.now)))) ≤ full }
     ensures { Gained S.Sink.output sink.old (words (offsets 0 (symbols (values (standing store.now))))) sink.new }
 {
-    let mut cursor = START;
     let mut offset: usize = 0;
-    while let Some(name) = next_symbol(store, &mut cursor) {
+    for name in Symbols::of(store) {
         length(sink, offset);
-        offset += name.len() + zeros_after(name) as usize;
+        offset += name.len() + zeros_after(name);
     }
 }

@@ -169,12 +169,12 @@ is_at Root = false
 is_at (At i) = true
 
 pub some_first : {X : Type 0} (xs : List X) (o : Node) → is_at o ≡ true → Under (length xs) o → 0 < length xs
-some_first xs Root e h = let z : ◌≡◌ {A = ℕ} 0 1 = cc in absurd (omega (arith, z))
+some_first xs Root e h = absurd cc
 some_first xs (At i) e h = omega (arith, h)
 
 pub deep_close : (cs ds : List Cell) (o q : Node) → Deep cs o → Below 0 (holders cs) → Under (length cs) o → q ≡ holder_at cs o → (last ds).closes ≡ (last cs).closes + 1 → length ds ≡ length cs → Deep ds q
 deep_close cs ds o Root d b u e k l = tt
-deep_close cs ds Root (At j) d b u e k l = let z : ◌≡◌ {A = ℕ} 0 1 = cc in absurd (omega (arith, z))
+deep_close cs ds Root (At j) d b u e k l = absurd cc
 deep_close cs ds (At i) (At j) d b u e k l =
     let h : Under i (get_or (holders cs) i Root) = below_at 0 i i (holders cs) b (omega (arith, u, length_holders cs)) (omega arith) in
     let lt : j < i = subst (λ p. Under i p) (holders_at cs i ∙ sym e) h in

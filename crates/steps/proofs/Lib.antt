@@ -1,5 +1,4 @@
 pub mod Texts
-pub mod Ranged
 pub mod Piled
 pub mod Adjusted
 pub mod Held

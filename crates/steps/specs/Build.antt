@@ -200,10 +200,14 @@ abbrev pub Under : ℕ → Node → Type 0
 Under K Root = Unit {0}
 Under K (At i) = i < K
 
+-- a fact about the cell of a value; the root has none
+abbrev pub AtCell : (Cell → Type 0) → List Cell → Node → Type 0
+AtCell P cs Root = Unit {0}
+AtCell P cs (At i) = P (cell_at cs i)
+
 -- the count of the value there can rise
 abbrev pub Raisable : List Cell → Node → Type 0
-Raisable cs Root = Unit {0}
-Raisable cs (At i) = count_in (cell_at cs i).sort + 1 < 2 ^ 32
+Raisable = AtCell (λ c. count_in c.sort + 1 < 2 ^ 32)
 
 abbrev pub last : List Cell → Cell
 last cs = cell_at cs (length cs - 1)

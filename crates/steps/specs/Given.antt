@@ -4,6 +4,8 @@ use Rattle.steps.specs.declared.parts.Value.{Value}
 use Rattle.steps.specs.declared.parts.Value.TheVariants.{Nothing, Logic, Char, Integer, Float, Text}
 use Rattle.steps.specs.declared.parts.Item.{Item}
 use Rattle.steps.specs.declared.parts.Item.TheVariants.{Put, Open, Share}
+use Rattle.steps.specs.declared.parts.Entry.{Entry as Given}
+use Rattle.steps.specs.Outline.{Entry}
 use Rattle.steps.specs.Steps.{Tag, Content, none, logic, char, integer, float, text, Begun, put, open', share}
 
 abbrev pub tag : Label → Tag
@@ -21,3 +23,6 @@ abbrev pub begun : Item → Begun
 begun (Put v) = put (content v)
 begun (Open h) = open' h
 begun (Share s t) = share s t
+
+abbrev pub entry : Given → Entry
+entry x = record { label = tag x.label; begun = begun x.item; holder = x.holder }

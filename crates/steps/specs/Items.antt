@@ -1,5 +1,5 @@
 -- What a pile holds, of the memory that it is lent.
-use Rattle.std.specs.Prelude.{◌≡◌, ℕ, ◌^◌, ◌<◌, ◌≤◌, min, List, length, take, drop}
+use Rattle.std.specs.Prelude.{◌≡◌, ℕ, min, List, length, take, drop}
 use Rattle.steps.specs.declared.pile.Pile.{Pile}
 
 -- the elements in use
@@ -17,10 +17,6 @@ lent p = length p.memory.now
 -- how many it may use
 abbrev pub room : {T : Type 0} → Pile T → ℕ
 room p = min (lent p) p.bound
-
--- it uses no more than it may, and numbers of elements fit 32 bits
-abbrev pub Sound : {T : Type 0} → Pile T → Type 0
-Sound p = (p.used ≤ lent p) × (p.used ≤ p.bound) × (p.bound < 2 ^ 32)
 
 -- as much memory is lent, and may be used
 abbrev pub Sized : {T : Type 0} → Pile T → Pile T → Type 0

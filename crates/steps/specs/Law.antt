@@ -1,5 +1,6 @@
 -- Which steps are allowed: the limits, and for which reason a step is refused.
 use Rattle.std.specs.Prelude.{◌≡◌, ℕ, ◌+◌, min, Bool, true, false, cond, ◌&&◌, List, [], ◌∷◌, length, pos, negsuc, Some, None, Ok, Err, Option, Result, ◌==◌, nat_le, nat_lt}
+use Rattle.std.specs.List.{list_all}
 use Rattle.refusal.specs.declared.Reason.{Reason}
 use Rattle.refusal.specs.declared.Reason.TheVariants.{TooDeep, NoMemory, NothingThere, BadName, NotAllowed}
 use Rattle.steps.specs.declared.parts.Holder.{Holder}
@@ -57,8 +58,7 @@ usable m k = min (m k) (limit k)
 -- ---- what may be begun
 
 abbrev pub codepoints_ok : List ℕ → Bool
-codepoints_ok [] = true
-codepoints_ok (p ∷ ps) = nat_lt p codepoint_end && codepoints_ok ps
+codepoints_ok = list_all (λ p. nat_lt p codepoint_end)
 
 abbrev pub content_ok : Content → Bool
 content_ok none = true

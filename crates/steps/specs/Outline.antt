@@ -92,6 +92,11 @@ abbrev pub holder_in : Option Entry → Option Node
 holder_in None = None
 holder_in (Some x) = Some x.holder
 
+-- whether this holds a value, if there is one
+abbrev pub held_by : Option Entry → Node → Bool
+held_by None h = false
+held_by (Some x) h = same_holder x.holder h
+
 -- the value of a number
 unfoldable pub begun_at : List Entry → ℕ → Option Begun
 begun_at [] n = None

@@ -1,5 +1,6 @@
 -- Well-formed UTF-8, by Unicode's table of the byte sequences that are, and names.
 use Rattle.std.specs.Prelude.{ℕ, Bool, true, cond, ◌&&◌, ◌||◌, List, [], ◌∷◌, length, ◌==◌, nat_le, nat_lt}
+use Rattle.std.specs.List.{list_all}
 
 abbrev pub within : ℕ → ℕ → ℕ → Bool
 within low high b = nat_le low b && nat_le b high
@@ -35,8 +36,7 @@ utf8 (a ∷ b ∷ c ∷ d ∷ rest) =
     cond (one a) (utf8 (b ∷ c ∷ d ∷ rest)) (cond (two a b) (utf8 (c ∷ d ∷ rest)) (cond (three a b c) (utf8 (d ∷ rest)) (four a b c d && utf8 rest)))
 
 abbrev pub no_zero : List ℕ → Bool
-no_zero [] = true
-no_zero (b ∷ bs) = nat_lt 0 b && no_zero bs
+no_zero = list_all (λ b. nat_lt 0 b)
 
 -- the name of a value in an object
 abbrev pub lawful_name : List ℕ → Bool

@@ -58,12 +58,7 @@ fn is_text(bytes: &[u8]) -> bool
 fn has_no_zero(bytes: &[u8]) -> bool
     ensures { result ≡ no_zero bytes.now }
 {
-    for b in bytes {
-        if *b == 0 {
-            return false;
-        }
-    }
-    true
+    bytes.iter().all(|b| *b > 0)
 }
 
 // Whether a value in an object may have this name.

@@ -1,6 +1,6 @@
 // What documents are made of, as callers give it and as cells hold it.
 
-#[derive(Clone, Copy)]
+#[derive(Clone, Copy, PartialEq, Eq, Debug)]
 pub enum ListKind {
     Block,
     Paren,
@@ -10,7 +10,7 @@ pub enum ListKind {
     GetPath,
 }
 
-#[derive(Clone, Copy)]
+#[derive(Clone, Copy, PartialEq, Eq, Debug)]
 pub enum TextKind {
     String,
     File,
@@ -18,7 +18,7 @@ pub enum TextKind {
 }
 
 // A share and its target are of one family.
-#[derive(Clone, Copy)]
+#[derive(Clone, Copy, PartialEq, Eq, Debug)]
 pub enum Family {
     Lists,
     Texts,
@@ -26,21 +26,21 @@ pub enum Family {
 }
 
 // The root of a document, or a value by its number.
-#[derive(Clone, Copy)]
+#[derive(Clone, Copy, PartialEq, Eq, Debug)]
 pub enum Node {
     Root,
     At(u32),
 }
 
 // What every value has, whatever its sort.
-#[derive(Clone, Copy)]
+#[derive(Clone, Copy, PartialEq, Eq, Debug)]
 pub struct Label<'n> {
     pub new_line: bool,
     pub name: &'n [u8],
 }
 
 // A value that holds no others. A float is its 64 bits.
-#[derive(Clone, Copy)]
+#[derive(Clone, Copy, PartialEq, Eq, Debug)]
 pub enum Value<'v> {
     Nothing,
     Logic(bool),
@@ -55,7 +55,7 @@ pub enum Value<'v> {
 }
 
 // A value that holds others.
-#[derive(Clone, Copy)]
+#[derive(Clone, Copy, PartialEq, Eq, Debug)]
 pub enum Holder {
     List {
         kind: ListKind,
@@ -71,7 +71,7 @@ pub enum Holder {
 }
 
 // A value that is a share, but for its target.
-#[derive(Clone, Copy)]
+#[derive(Clone, Copy, PartialEq, Eq, Debug)]
 pub enum Share {
     List { kind: ListKind, head: u32 },
     Text { kind: TextKind, head: u32 },
@@ -79,22 +79,30 @@ pub enum Share {
 }
 
 // A value that a step begins.
-#[derive(Clone, Copy)]
+#[derive(Clone, Copy, PartialEq, Eq, Debug)]
 pub enum Item<'v> {
     Put(Value<'v>),
     Open(Holder),
     Share(Share, Node),
 }
 
+// A value that was begun, and what holds it.
+#[derive(Clone, Copy, PartialEq, Eq, Debug)]
+pub struct Entry<'v> {
+    pub label: Label<'v>,
+    pub item: Item<'v>,
+    pub holder: Node,
+}
+
 // A part of a memory.
-#[derive(Clone, Copy)]
+#[derive(Clone, Copy, PartialEq, Eq, Debug)]
 pub struct Span {
     pub start: u32,
     pub len: u32,
 }
 
 // The value of a cell. Its codepoints are a part of their own memory; `count` is how many values it holds.
-#[derive(Clone, Copy)]
+#[derive(Clone, Copy, PartialEq, Eq, Debug)]
 pub enum Sort {
     Nothing,
     Logic(bool),
@@ -117,7 +125,7 @@ pub enum Sort {
 }
 
 // A value, what holds it, and how many closes come right after it, before the next value begins.
-#[derive(Clone, Copy)]
+#[derive(Clone, Copy, PartialEq, Eq, Debug)]
 pub struct Cell {
     pub new_line: bool,
     pub name: Span,

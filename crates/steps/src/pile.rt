@@ -1,5 +1,4 @@
 ghost use Rattle.std.specs.Prelude.{◌≡◌, ℕ, ◌+◌, ◌^◌, ◌<◌, ◌≤◌, min, [], ◌∷◌, ◌++◌, length, take, drop, nat_le, slice_index_or, slice_set};
-ghost use Rattle.steps.specs.Items.{items, free, Sound, Sized, room};
 
 // The first `used` elements of a memory that its owner lends. It never uses more than `bound`.
 #[derive(Drop)]
@@ -7,11 +6,16 @@ pub struct Pile<'a, T> {
     pub(crate) memory: &'a mut [T],
     used: usize,
     bound: usize,
+    pub ghost within: { used ≤ length memory.now },
+    pub ghost bounded: { used ≤ bound },
+    // numbers of elements fit 32 bits
+    pub ghost small: { bound < 2 ^ 32 },
 }
 
 impl<'a, T: Copy> Pile<'a, T> {
+    ghost use Rattle.steps.specs.Items.{items, free, Sized, room};
+
     pub fn new(memory: &'a mut [T], bound: u32) -> Pile<'a, T>
-        ensures sound { Sound result }
         ensures items { items result ≡ [] }
         ensures lent { length result.memory.now ≡ length memory.old }
         ensures bound { result.bound ≡ bound }
@@ -25,7 +29,6 @@ impl<'a, T: Copy> Pile<'a, T> {
 
     // How many are in use.
     pub fn count(&self) -> u32
-        requires { Sound self.now }
         ensures { result ≡ length (items self.now) }
     {
         self.used as u32
@@ -33,7 +36,6 @@ impl<'a, T: Copy> Pile<'a, T> {
 
     // Whether there is room for so many more.
     pub fn takes(&self, more: usize) -> bool
-        requires { Sound self.now }
         ensures { result ≡ nat_le (length (items self.now) + more) (room self.now) }
     {
         let usable = self.memory.len().min(self.bound);
@@ -42,9 +44,7 @@ impl<'a, T: Copy> Pile<'a, T> {
 
     // Adds elements at the end.
     pub fn append(&mut self, more: &[T])
-        requires sound { Sound self.old }
-        requires fits { length (items self.old) + length more.now ≤ room self.old }
-        ensures sound { Sound self.new }
+        requires { length (items self.old) + length more.now ≤ room self.old }
         ensures sized { Sized self.old self.new }
         ensures items { items self.new ≡ items self.old ++ more.now }
     {
@@ -55,11 +55,21 @@ impl<'a, T: Copy> Pile<'a, T> {
         self.used = end;
     }
 
+    // Copies elements into free memory, where they are not in use yet.
+    pub fn copy_free(&mut self, xs: &[T])
+        requires { length (items self.old) + length xs.now ≤ room self.old }
+        ensures sized { Sized self.old self.new }
+        ensures items { items self.new ≡ items self.old }
+        ensures free { take (length xs.now) (free self.new) ≡ xs.now }
+    {
+        let used = self.used;
+        let end = used + xs.len();
+        self.memory[used..end].copy_from_slice(xs);
+    }
+
     // Adds one element at the end.
     pub fn push(&mut self, x: T)
-        requires sound { Sound self.old }
-        requires fits { length (items self.old) + 1 ≤ room self.old }
-        ensures sound { Sound self.new }
+        requires { length (items self.old) + 1 ≤ room self.old }
         ensures sized { Sized self.old self.new }
         ensures items { items self.new ≡ items self.old ++ (x ∷ []) }
     {
@@ -70,9 +80,7 @@ impl<'a, T: Copy> Pile<'a, T> {
 
     // Writes an element into free memory, where it is not in use yet.
     pub fn write_free(&mut self, at: u32, x: T)
-        requires sound { Sound self.old }
-        requires fits { length (items self.old) + at < room self.old }
-        ensures sound { Sound self.new }
+        requires { length (items self.old) + at < room self.old }
         ensures sized { Sized self.old self.new }
         ensures items { items self.new ≡ items self.old }
         ensures free { free self.new ≡ slice_set (free self.old) at x }
@@ -83,9 +91,7 @@ impl<'a, T: Copy> Pile<'a, T> {
 
     // Adds the first elements of free memory at the end.
     pub fn extend(&mut self, more: u32)
-        requires sound { Sound self.old }
-        requires fits { length (items self.old) + more ≤ room self.old }
-        ensures sound { Sound self.new }
+        requires { length (items self.old) + more ≤ room self.old }
         ensures sized { Sized self.old self.new }
         ensures items { items self.new ≡ items self.old ++ take more (free self.old) }
     {
@@ -94,9 +100,7 @@ impl<'a, T: Copy> Pile<'a, T> {
 
     // Cuts back to the first `to`.
     pub fn cut(&mut self, to: u32)
-        requires sound { Sound self.old }
-        requires within { to ≤ length (items self.old) }
-        ensures sound { Sound self.new }
+        requires { to ≤ length (items self.old) }
         ensures sized { Sized self.old self.new }
         ensures items { items self.new ≡ take to (items self.old) }
     {
@@ -104,8 +108,7 @@ impl<'a, T: Copy> Pile<'a, T> {
     }
 
     pub fn get(&self, at: u32) -> T
-        requires sound { Sound self.now }
-        requires within { at < length (items self.now) }
+        requires { at < length (items self.now) }
         ensures { (d : T) → result ≡ slice_index_or (items self.now) at d }
     {
         let memory = &*self.memory;
@@ -114,8 +117,7 @@ impl<'a, T: Copy> Pile<'a, T> {
 
     // The `len` elements from `start` on.
     pub fn part(&self, start: u32, len: u32) -> &[T]
-        requires sound { Sound self.now }
-        requires within { start + len ≤ length (items self.now) }
+        requires { start + len ≤ length (items self.now) }
         ensures { result.now ≡ take len (drop start (items self.now)) }
     {
         let begin = start as usize;

@@ -1,17 +1,15 @@
-use Rattle.std.proofs.Common.{sym, arith}
+use Rattle.std.proofs.Common.{◌∙◌, arith, rules}
+use Rattle.std.proofs.lemmas.Iterator.{YieldsList-from_range}
+use Rattle.std.proofs.lemmas.Iterator.Search.{find_from_yields_List}
 use Rattle.steps.specs.Outline.{values}
 use Rattle.document.specs.Standing.{standing}
-use Rattle.delays.proofs.Oldest.{offender_none, offender_not, offender_found, offender_all}
+use Rattle.delays.specs.Delays.{offends_at}
+use Rattle.delays.proofs.Oldest.{mapped_same, offender_range}
 use Rattle.delays.proofs.offender.Goals as goal
 
-pub loop-number-init : goal.loop-number-init
-loop-number-init c = offender_none (values (standing c.args.store.now))
-
-pub returns-then-offends : goal.returns-then-offends
-returns-then-offends c = sym (offender_found (values (standing c.args.store.now)) c.loop-number.number (omega (arith, c.count-number-end.ensures)) c.loop-number.invariant (sym c.if-offends.ensures))
-
-pub loop-number-preserved : goal.loop-number-preserved
-loop-number-preserved c = offender_not (values (standing c.args.store.now)) c.loop-number.number (omega (arith, c.count-number-end.ensures)) c.loop-number.invariant (sym c.if-offends.ensures)
-
 pub returns : goal.returns
-returns c = offender_all (values (standing c.args.store.now)) c.loop-number.number (omega (arith, c.count-number-end.ensures)) c.loop-number.invariant
+returns c =
+    let xs = values (standing c.args.store.now) in
+    mapped_same c.find.result
+    ∙ find_from_yields_List (offends_at xs) _ _ c.find.result c.find.ensures.ran (YieldsList-from_range 0 c.count.result c.count.result (cc) (omega arith)) (λ x b q k. search rules)
+    ∙ offender_range xs c.count.result c.count.ensures

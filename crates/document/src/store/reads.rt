@@ -1,18 +1,20 @@
 // What stands in a store, value by value.
-ghost use Rattle.std.specs.Prelude.{◌≡◌, length, Some as some, None as nothing, MatchOption, nat_lt};
-ghost use Rattle.steps.specs.Given.{tag, begun};
-ghost use Rattle.steps.specs.Outline.{values, opened, entry_at, begun_at, label_in, holder_in};
-ghost use Rattle.document.specs.Standing.{standing, none_stands, Kept};
+ghost use Rattle.std.specs.Prelude.{◌≡◌, ◌<◌, ◌≤◌, length, Some as some, MatchOption, nat_lt};
+ghost use Rattle.std.specs.Option.{option_map};
+ghost use Rattle.steps.specs.declared.parts.Node.TheVariants.{At as at};
+ghost use Rattle.steps.specs.Given.{entry};
+ghost use Rattle.steps.specs.Steps.{open' as opening};
+ghost use Rattle.steps.specs.Outline.{values, opened, entry_at, begun_at, holder_in, held_by, inner_names};
+ghost use Rattle.steps.specs.Items.{items};
+ghost use Rattle.steps.specs.Build.{cell_at};
+ghost use Rattle.document.specs.Standing.{standing, none_stands};
 
 use crate::store::Store;
-use steps::cells::span_of;
-use steps::item::item_of;
-use steps::parts::{Item, Label, Node};
+use steps::parts::{Cell, Entry, Holder, Label, Node};
 
 impl<'a> Store<'a> {
     // Whether no step stands.
     pub fn is_empty(&self) -> bool
-        requires { Kept self.now }
         ensures { result ≡ none_stands (standing self.now) }
     {
         self.cells.count() == 0
@@ -20,7 +22,6 @@ impl<'a> Store<'a> {
 
     // Whether something is open.
     pub fn has_open(&self) -> bool
-        requires { Kept self.now }
         ensures { result ≡ nat_lt 0 (length (opened (standing self.now))) }
     {
         self.depth > 0
@@ -28,50 +29,61 @@ impl<'a> Store<'a> {
 
     // How many values have begun.
     pub fn count(&self) -> u32
-        requires { Kept self.now }
         ensures { result ≡ length (values (standing self.now)) }
     {
         self.cells.count()
     }
 
-    // What holds the value of a number, if there is such a value.
-    pub fn holder_of(&self, number: u32) -> Option<Node>
-        requires { Kept self.now }
-        ensures { result ≡ holder_in (entry_at (values (standing self.now)) number) }
+    // The cell of a number, if there is one.
+    pub(crate) fn cell(&self, number: u32) -> Option<Cell>
+        ensures { MatchOption result (length (items self.now.cells) ≤ number) (λ c. (number < length (items self.now.cells)) × (c ≡ cell_at (items self.now.cells) number)) }
     {
-        if number >= self.cells.count() {
-            return None;
+        if number < self.cells.count() {
+            Some(self.cells.get(number))
+        } else {
+            None
         }
-        Some(self.cells.get(number).holder)
     }
 
-    // The new-line mark and the name of the value of a number.
-    pub fn label(&self, number: u32) -> Option<Label<'_>>
-        requires { Kept self.now }
-        ensures { MatchOption result (entry_at (values (standing self.now)) number ≡ nothing) (λ l. label_in (entry_at (values (standing self.now)) number) ≡ some (tag l)) }
+    // What holds the value of a number, if there is such a value.
+    pub fn holder_of(&self, number: u32) -> Option<Node>
+        ensures { result ≡ holder_in (entry_at (values (standing self.now)) number) }
     {
-        if number >= self.cells.count() {
-            return None;
-        }
-        let cell = self.cells.get(number);
+        Some(self.cell(number)?.holder)
+    }
+
+    // Whether the value of a number stands directly in a list or object, or at the root.
+    pub fn is_held(&self, number: u32, holder: Node) -> bool
+        ensures { result ≡ held_by (entry_at (values (standing self.now)) number) holder }
+    {
+        self.holder_of(number) == Some(holder)
+    }
+
+    // The value of a number, if there is one.
+    pub fn entry(&self, number: u32) -> Option<Entry<'_>>
+        ensures { option_map entry result ≡ entry_at (values (standing self.now)) number }
+    {
+        let cell = self.cell(number)?;
+        let span = cell.sort.span();
         let name = self.names.part(cell.name.start, cell.name.len);
-        Some(Label {
-            new_line: cell.new_line,
-            name,
+        let codepoints = self.codepoints.part(span.start, span.len);
+        Some(Entry {
+            label: Label {
+                new_line: cell.new_line,
+                name,
+            },
+            item: cell.sort.item(codepoints),
+            holder: cell.holder,
         })
     }
 
-    // The value of a number.
-    pub fn value(&self, number: u32) -> Option<Item<'_>>
-        requires { Kept self.now }
-        ensures { MatchOption result (begun_at (values (standing self.now)) number ≡ nothing) (λ x. begun_at (values (standing self.now)) number ≡ some (begun x)) }
+    // How many values stand directly in an opened list or object.
+    pub fn inner_count(&self, number: u32) -> u32
+        ensures { (h : Holder) → begun_at (values (standing self.now)) number ≡ some (opening h) → result ≡ length (inner_names (values (standing self.now)) (at number)) }
     {
-        if number >= self.cells.count() {
-            return None;
+        match self.cell(number) {
+            Some(cell) => cell.sort.count(),
+            None => 0,
         }
-        let sort = self.cells.get(number).sort;
-        let span = span_of(sort);
-        let codepoints = self.codepoints.part(span.start, span.len);
-        Some(item_of(sort, codepoints))
     }
 }

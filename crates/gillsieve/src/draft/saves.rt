@@ -1,7 +1,6 @@
 ghost use Rattle.gillsieve.specs.Events.{saved, Did};
 
 use crate::draft::Draft;
-use crate::draft::edits::answer;
 use refusal::Refusal;
 use save::save;
 
@@ -11,7 +10,6 @@ impl<'a> Draft<'a> {
     pub fn save(&self, output: &mut [u8]) -> Result<usize, Refusal>
         ensures { Did self.now (saved output.old output.new result) self.now }
     {
-        let result = save(&self.store, output);
-        answer(result)
+        Ok(save(&self.store, output)?)
     }
 }

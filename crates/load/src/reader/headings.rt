@@ -9,53 +9,44 @@ ghost use Rattle.load.specs.Ran.{DidIn, as_read, rest_of};
 use crate::header::Heading;
 use crate::header::headings::heading_of;
 use crate::reader::Reader;
+use redbin::header::type_in;
+use redbin::layout::{FLOAT_TYPE, PADDING_HEADER, PADDING_TYPE};
 use refusal::{Part, Reason, Refusal};
-
-const FLOAT_TYPE: u8 = 12;
-
-const TYPE_END: u32 = 0x100;
 
 impl<'f> Reader<'f> {
     // Whether a whole header of a float follows.
     fn float_follows(&self) -> bool
         ensures { result ≡ not (nat_lt (length (rest_of self.now)) 4 || not (number (take 1 (rest_of self.now)) == float_type)) }
     {
-        let file = self.file;
-        let place = self.place;
-        file.len() - place >= 4 && file[place] == FLOAT_TYPE
+        match self.rest() {
+            [code, _, _, _, ..] => *code == FLOAT_TYPE,
+            _ => false,
+        }
     }
 
     // The header of the float that has to stand behind padding. The padding has this place and header.
+    #[tactic(auto, unfolding(redbin::specs::Reading::behind_padding, redbin::specs::Reading::after, redbin::specs::Reading::refuse_when, redbin::specs::Reading::here))]
     fn behind_padding(&mut self, place: usize, header: u32) -> Result<Heading, Refusal>
         ensures { DidIn self.old (λ c. behind_padding c place header) (as_read headed result) self.new }
     {
-        let part = Part::Record;
         if !self.float_follows() {
-            return Err(Refusal {
-                reason: Reason::BadType,
-                part,
-                place,
-            });
+            return Err(Reason::BadType.at(Part::Record, place));
         }
-        if header != 0 {
-            return Err(Refusal {
-                reason: Reason::BadBits,
-                part,
-                place,
-            });
+        if header != PADDING_HEADER {
+            return Err(Reason::BadBits.at(Part::Record, place));
         }
         let start = self.place;
-        let next = self.any_word(part)?;
-        heading_of(start, next)
+        heading_of(start, self.any_word(Part::Record)?)
     }
 
     // A value's header, with the padding before it.
+    #[tactic(auto, unfolding(redbin::specs::Reading::heading, redbin::specs::Reading::after, redbin::specs::Reading::here))]
     pub fn heading(&mut self) -> Result<Heading, Refusal>
         ensures { DidIn self.old heading (as_read headed result) self.new }
     {
         let place = self.place;
         let header = self.any_word(Part::Record)?;
-        if header % TYPE_END == 0 {
+        if type_in(header) == PADDING_TYPE {
             self.behind_padding(place, header)
         } else {
             heading_of(place, header)

@@ -1,12 +1,14 @@
 // Runs of numbers as one field.
-ghost use Rattle.std.specs.Prelude.{◌≡◌, ◌+◌, ◌*◌, length, take, IfOk, OnOk};
+ghost use Rattle.std.specs.Prelude.{◌≡◌, ◌+◌, ◌*◌, length, take, map, IfOk, OnOk};
+ghost use Rattle.redbin.specs.Bytes.{number};
 ghost use Rattle.redbin.specs.Reading.{run};
 ghost use Rattle.load.specs.Ran.{Did, as_read, rest_of};
-ghost use Rattle.load.specs.Runs.{width, entries};
+ghost use Rattle.redbin.specs.Layout.{width};
+ghost use Rattle.load.specs.Runs.{entries};
 
 use crate::reader::Reader;
 use crate::runs::{first_bad, span};
-use crate::unit::Width;
+use redbin::width::Width;
 use refusal::{Part, Reason, Refusal};
 
 impl<'f> Reader<'f> {
@@ -25,25 +27,26 @@ impl<'f> Reader<'f> {
         ensures long { IfOk result (λ b. length b.now ≡ n * width unit) }
     {
         let place = self.place;
-        let file = self.file;
-        let size = span(unit, n);
-        if file.len() - place < size {
-            return Err(Refusal {
-                reason: Reason::Short,
-                part,
-                place,
-            });
+        let bytes = self.bytes(part, span(unit, n))?;
+        match first_bad(bytes, unit, end) {
+            None => Ok(bytes),
+            Some(i) => Err(why.at(part, place + i * unit.bytes() as usize)),
         }
-        match first_bad(file, place, unit, end, n) {
-            None => {
-                self.place = place + size;
-                Ok(&file[place..place + size])
-            }
-            Some(i) => Err(Refusal {
-                reason: why,
-                part,
-                place: place + span(unit, i),
-            }),
-        }
+    }
+
+    // The same, where each number has four bytes.
+    pub fn words(
+        &mut self,
+        part: Part,
+        end: u64,
+        why: Reason,
+        n: u32,
+    ) -> Result<&'f [[u8; 4]], Refusal>
+        ensures did { Did self.old (λ size. run size part 4 end why n) (as_read (λ b. map number b.now) result) self.new }
+        ensures long { IfOk result (λ b. length b.now ≡ n) }
+    {
+        let bytes = self.run(part, Width::Four, end, why, n)?;
+        let (words, _) = bytes.as_chunks();
+        Ok(words)
     }
 }

@@ -6,16 +6,14 @@ ghost use Rattle.load.specs.Ran.{Did, as_read, size_of};
 ghost use Rattle.load.specs.Tables.{table_of};
 
 use crate::reader::Reader;
-use crate::runs::{number_at, span};
+use crate::runs::number;
 use crate::symbols::Symbols;
-use crate::symbols::table::first_unnamed;
-use crate::unit::Width;
+use redbin::layout::WORD_END;
 use refusal::{Part, Reason, Refusal};
-
-const WORD_END: u64 = 0x1_0000_0000;
 
 impl<'f> Reader<'f> {
     // How many names, the strings' size, the offsets and the strings.
+    #[tactic(auto, unfolding(redbin::specs::Reading::symbol_table, redbin::specs::Reading::after, redbin::specs::Reading::here))]
     pub fn symbol_table(&mut self) -> Result<Symbols<'f>, Refusal>
         ensures { Did self.old symbol_table (as_read table_of result) self.new }
     {
@@ -23,15 +21,12 @@ impl<'f> Reader<'f> {
         let n = self.word(part)?;
         let size = self.word(part)?;
         let place = self.place;
-        let offsets = self.run(part, Width::Four, WORD_END, Reason::Large, n)?;
+        let offsets = self.words(part, WORD_END, Reason::Large, n)?;
         let strings = self.bytes(part, size as usize)?;
-        match first_unnamed(offsets, strings, n) {
-            None => Ok(Symbols { offsets, strings }),
-            Some(i) => Err(Refusal {
-                reason: Reason::BadSymbol,
-                part,
-                place: place + span(Width::Four, i),
-            }),
+        let symbols = Symbols { offsets, strings };
+        match symbols.first_unnamed() {
+            None => Ok(symbols),
+            Some(i) => Err(Reason::BadSymbol.at(part, place + i * 4)),
         }
     }
 
@@ -40,6 +35,6 @@ impl<'f> Reader<'f> {
         requires { place + 4 ≤ size_of self.now }
         ensures { result ≡ number (take 4 (drop place self.now.file.now)) }
     {
-        number_at(self.file, place, Width::Four)
+        number(&self.file[place..])
     }
 }

@@ -17,7 +17,6 @@ overflow_cast-sizes-2 c = omega (arith, (text_records_low (standing c.args.store
 pub symbol_table-requires : goal.symbol_table-requires
 symbol_table-requires c =
     record {
-      kept = c.requires.kept;
       counted = c.requires.exact.count;
       sized = c.requires.exact.strings;
       low = omega (arith, (text_records_low (standing c.args.store.now) _ _ _ c.requires.exact c.requires.low).0);
@@ -35,8 +34,7 @@ payload-requires c =
     let r = c.inner_count-roots.ensures ∙ ap (λ ys. length (inner_names ys Root)) (oldest_all (values e) c.count.result (omega (arith, c.count.ensures))) in
     let n = end_is e _ _ _ _ _ c.requires.exact c.flags.ensures r (λ o. o) _ _ _ c.requires.fresh c.requires.low c.requires.fits c.heading.ensures c.symbol_table.ensures _ c.size-end.ensures in
     record {
-      kept = c.requires.kept;
-      ready = payload_ready e _ _ _ _ _ c.requires.exact c.flags.ensures r (λ o. o) _ _ _ c.requires.fresh c.requires.low c.requires.fits c.heading.ensures c.symbol_table.ensures _ _ c.size-end.ensures refl (clean_symbols (values e) (kept_fine c.args.store.now c.requires.kept));
+      ready = payload_ready e _ _ _ _ _ c.requires.exact c.flags.ensures r (λ o. o) _ _ _ c.requires.fresh c.requires.low c.requires.fits c.heading.ensures c.symbol_table.ensures _ _ c.size-end.ensures refl (clean_symbols (values e) (kept_fine c.args.store.now));
       low = omega (arith, n, c.size-end.ensures, before_payload e _ _ _ _ _ c.requires.exact c.flags.ensures r, c.requires.low);
     }
 

@@ -1,18 +1,14 @@
-use Rattle.std.proofs.Common.{◌≡◌, ℕ, ◌+◌, ◌*◌, ◌<◌, List, take, drop, ◌∙◌, arith, below_more}
-use Rattle.redbin.specs.Bytes.{number}
-use Rattle.load.specs.Runs.{width, entry}
-use Rattle.load.proofs.Series.{entry_from}
+use Rattle.std.proofs.Common.{◌/◌, length, ◌∙◌, rules}
+use borrow.Author.Tests.{tests}
+use Rattle.std.proofs.lemmas.Iterator.{IsFirst-from_position}
+use Rattle.redbin.specs.Layout.{width}
+use Rattle.load.proofs.Chunks.{Bad, Fine, chunks_yielded, sought}
 use Rattle.load.proofs.runs.first_bad.Goals as goal
 
-found : (unit i p at : ℕ) (f : List ℕ) (v : ℕ) → at ≡ i * unit → v ≡ number (take unit (drop (p + at) f)) → v ≡ entry unit i (drop p f)
-found unit i p at f v ea ev = ev ∙ rw (ea, entry_from unit i p f)
-
-pub returns-then-number_at-end : goal.returns-then-number_at-end
-returns-then-number_at-end c =
-    let v = found (width c.args.unit) c.loop-i.i c.args.place c.span.result c.args.bytes.now c.number_at.result c.span.ensures c.number_at.ensures in
-    (omega arith, omega arith, c.loop-i.invariant)
-
-pub loop-i-preserved : goal.loop-i-preserved
-loop-i-preserved c =
-    let v = found (width c.args.unit) c.loop-i.i c.args.place c.span.result c.args.bytes.now c.number_at.result c.span.ensures c.number_at.ensures in
-    below_more (λ (j : ℕ). entry (width c.args.unit) j (drop c.args.place c.args.bytes.now) < c.args.end) c.loop-i.i c.loop-i.invariant (omega arith)
+pub returns : goal.returns
+returns c =
+    let u = c.args.unit in
+    let bs = c.args.bytes.now in
+    let k = length bs / width u in
+    sought u c.args.end k bs c.position.result
+    (IsFirst-from_position _ _ c.position.result (Bad u c.args.end k bs) (Fine u c.args.end k bs) c.position.ensures.ran (chunks_yielded u c.chunks_exact.result bs (c.chunks_exact.ensures.size ∙ c.bytes.ensures) c.chunks_exact.ensures.rest) (λ x q h. search (rules, tests)) (λ x q h. search (rules, tests)))

@@ -1,19 +1,10 @@
-use Rattle.std.proofs.lemmas.Result.{err_from_is_err_and}
 use Rattle.refusal.specs.declared.Part.TheVariants.{Record}
 use Rattle.steps.specs.Given.{tag}
 use Rattle.steps.specs.Steps.{integer}
 use Rattle.redbin.specs.Reading.{content, add, signed, any_word}
-use Rattle.load.proofs.Filling.{field_stop, field_add}
+use Rattle.load.proofs.Filling.{field_add}
 use Rattle.load.proofs.scalars.integer.Goals as goal
-
-pub returns-in_err-n : goal.returns-in_err-n
-unfolding content
-returns-in_err-n c =
-    let p = err_from_is_err_and c.from_residual.result c.from_residual.ensures.1 in
-    rw (p.1, p.2) (λ one. field_stop c.args.reader.now _ c.args.store.now (λ n. any_word n Record) (λ s n. add s c.args.place (tag c.args.label) (integer (signed n))) _ c.requires.kept c.in_err-n.ensures)
 
 pub returns : goal.returns
 unfolding content
-returns c =
-    let v = c.integer_value.ensures in
-    λ one. field_add c.args.reader.now _ c.args.store.now (λ n. any_word n Record) (λ s n. add s c.args.place (tag c.args.label) (integer (signed n))) _ _ _ c.in_ok-n.ensures (rw v at c.add.ensures)
+returns c = λ one. field_add c.args.reader.now _ c.args.store.now (λ n. any_word n Record) (λ s n. add s c.args.start.place (tag c.args.start.label) (integer (signed n))) _ _ _ c.in_ok-n.ensures (rw c.integer_value.ensures at c.add.ensures)

@@ -9,16 +9,15 @@ use Rattle.load_file.proofs.file.load.Goals as goal
 pub returns-then-not-is_empty : goal.returns-then-not-is_empty
 returns-then-not-is_empty c =
     let s = c.args.store.now in
-    record {
-      kept = c.requires;
+    rw c.into.ensures (record {
       memory = refl;
       comes = some_stand (memory_lent s) (standing s) c.args.file.now (sym c.if-not-is_empty.ensures);
       stays = refl;
       untouched = untouched (standing s) s;
-    }
+    })
 
 pub read_file-requires : goal.read_file-requires
-read_file-requires c = record { kept = c.requires; empty = none_stand (standing c.args.store.now) (sym c.if-not-is_empty.ensures) }
+read_file-requires c = none_stand (standing c.args.store.now) (sym c.if-not-is_empty.ensures)
 
 pub returns-in-Ok : goal.returns-in-Ok
 returns-in-Ok c =
@@ -27,7 +26,6 @@ returns-in-Ok c =
     let e = none_stand (standing s) (sym c.if-not-is_empty.ensures) in
     let g = c.in-Ok.ensures in
     record {
-      kept = g.kept;
       memory = g.memory;
       comes = ap (λ (x : Steps). load (memory_lent s) x f) e ∙ g.comes;
       stays = tt;
@@ -42,7 +40,6 @@ returns-in-Err c =
     let g = c.in-Err.ensures in
     let h = c.clear.ensures in
     record {
-      kept = h.kept;
       memory = h.memory ∙ g.memory;
       comes = ap (λ (x : Steps). load (memory_lent s) x f) e ∙ g.comes;
       stays = h.told ∙ sym e;

@@ -30,7 +30,6 @@ returns-in_err-start_of_file c =
     let r = c.new-reader.result in
     let e = ap (λ x. x.now) c.new-reader.ensures.file in
     rw (p.1, p.2) (record {
-      kept = c.requires.kept;
       memory = refl;
       comes = ap (reading k) (sym e) ∙ read_refused k r.file.now _ (whole_start k r.file.now [] [] _ (c.in_err-start_of_file.ensures.ran []));
     })
@@ -43,7 +42,6 @@ returns-in_err-count c =
     let e = ap (λ x. x.now) c.new-reader.ensures.file in
     let g₁ = c.in_ok-start_of_file.ensures in
     rw (p.1, p.2) (record {
-      kept = c.requires.kept;
       memory = refl;
       comes = ap (reading k) (sym e) ∙ read_refused k r.file.now _ (whole_count k r.file.now _ [] (g₁.ran []) _ (ran_at r _ _ (λ n. word n Header) _ c.in_err-count.ensures g₁.file []));
     })
@@ -58,7 +56,6 @@ returns-in_err-payload c =
     let g₂ = c.in_ok-count.ensures in
     let w₂ = ran_at r _ _ (λ n. word n Header) _ g₂ g₁.file [] in
     rw (p.1, p.2) (record {
-      kept = c.requires.kept;
       memory = refl;
       comes = ap (reading k) (sym e) ∙ read_refused k r.file.now _ (whole_payload k r.file.now _ [] (g₁.ran []) _ _ w₂ _ (ran_at r _ _ (λ n. word n Header) _ c.in_err-payload.ensures (g₂.file ∙ g₁.file) []));
     })
@@ -75,16 +72,17 @@ returns-in_err-symbols c =
     let w₂ = ran_at r _ _ (λ n. word n Header) _ g₂ g₁.file [] in
     let w₃ = ran_at r _ _ (λ n. word n Header) _ g₃ (g₂.file ∙ g₁.file) [] in
     rw (p.1, p.2) (record {
-      kept = c.requires.kept;
       memory = refl;
       comes = ap (reading k) (sym e) ∙ read_refused k r.file.now _ (whole_table k r.file.now _ [] (g₁.ran []) _ _ w₂ _ _ w₃ _ (tabled_at r _ _ _ (g₃.file ∙ g₂.file ∙ g₁.file) c.in_err-symbols.ensures []));
     })
 
-pub records-requires : goal.records-requires
-records-requires c =
-    let b = c.args.store.now in
-    let z : length (opened (standing b)) ≡ 0 = ap (λ (e : Steps). length (opened e)) c.requires.empty in
-    record { kept = c.requires.kept; deep = omega (arith, z); table = table_lawful _ _ _ _ _ (c.in_ok-symbols.ensures.ran []) }
+pub read_payload-requires-clause-lawful : goal.read_payload-requires-clause-lawful
+read_payload-requires-clause-lawful c = table_lawful _ _ _ _ _ (c.in_ok-symbols.ensures.ran [])
+
+pub read_payload-requires-clause-prepared : goal.read_payload-requires-clause-prepared
+read_payload-requires-clause-prepared c =
+    let z : length (opened (standing c.args.store.now)) ≡ 0 = ap (λ (e : Steps). length (opened e)) c.requires in
+    omega (arith, z)
 
 pub returns : goal.returns
 returns c =
@@ -103,6 +101,7 @@ returns c =
     let whole = whole_records k r.file.now _ [] (g₁.ran []) _ _ w₂ _ _ w₃ _ _ w₄ in
     let s : Setting = record { size = length r.file.now; uses = k; table = []; payload = 0 } in
     let size : length r.file.now ≡ size_of c.symbols.new.reader = ap (λ (x : _). length x.now) (sym (g₄.file ∙ f₃)) in
-    let g = c.records.ensures in
-    let comes = comes_by k r.file.now _ _ _ _ (standing b) _ _ c.requires.empty whole (g.came s size refl) in
-    record { kept = g.kept; memory = g.memory; comes = subst (λ (f : List ℕ). Comes (reading k f) c.records.result (standing c.records.new.store)) e comes }
+    let g = c.read_payload.ensures in
+    let x = rest_of c.symbols.new.reader in
+    let comes = comes_by k r.file.now x _ _ (standing b) _ _ c.requires whole (g.comes s size refl) in
+    record { memory = g.memory; comes = subst (λ (f : List ℕ). Comes (reading k f) c.read_payload.result (standing c.read_payload.new.store)) e comes }

@@ -3,5 +3,5 @@ use Rattle.save.specs.Sinks.{Gained}
 use Rattle.save.proofs.fields.bytes.Given as goal
 
 -- the bytes so far were written
-abbrev pub invariant-loop-b : goal.invariant-loop-b
-invariant-loop-b g l = Gained g.S.Sink.output l.initial.sink (take l.b-index l.bytes) l.sink
+abbrev pub invariant-loop-byte : goal.invariant-loop-byte
+invariant-loop-byte g l = Gained g.S.Sink.output l.initial.sink (take l.byte-index l.bytes) l.sink

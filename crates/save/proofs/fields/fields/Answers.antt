@@ -1,12 +1,14 @@
-use Rattle.std.proofs.Common.{rules}
-use Rattle.save.proofs.Runs.{fields_none, fields_more, fields_all}
+use Rattle.std.proofs.Common.{arith, rules}
+use Rattle.save.proofs.Runs.{width_low, gained_low, fields_none, fields_more, fields_all}
 use Rattle.save.proofs.fields.fields.Goals as goal
 
-pub loop-n-init : goal.loop-n-init
-loop-n-init g c = fields_none g.S.Sink.output c.args.size c.args.sink.now
+pub loop-number-init : goal.loop-number-init
+loop-number-init g c = fields_none g.S.Sink.output c.bytes-size.result c.args.sink.now
 
-pub loop-n-preserved : goal.loop-n-preserved
-loop-n-preserved g c = fields_more g.S.Sink.output c.args.size _ _ _ c.loop-n.n-index _ c.args.numbers.now c.loop-n-test.true (search rules) c.loop-n.invariant c.number.ensures
+pub loop-number-preserved : goal.loop-number-preserved
+loop-number-preserved g c =
+    let low = gained_low g.S.Sink.output _ _ c.bytes-size.result 4 _ _ (omega (arith, c.bytes-size.ensures, width_low c.args.unit)) c.to_le_bytes.ensures c.bytes.ensures in
+    fields_more g.S.Sink.output c.bytes-size.result _ _ _ c.loop-number.number-index _ c.args.numbers.now c.loop-number-test.true (search rules) c.loop-number.invariant low
 
 pub returns : goal.returns
-returns g c = fields_all g.S.Sink.output c.args.size _ _ c.loop-n.n-index c.args.numbers.now c.loop-n-test.false c.loop-n.invariant
+returns g c = rw (← c.bytes-size.ensures) (fields_all g.S.Sink.output c.bytes-size.result _ _ c.loop-number.number-index c.args.numbers.now c.loop-number-test.false c.loop-number.invariant)

@@ -15,7 +15,6 @@ record-requires g c =
     let f = g.S.Sink.output in
     let p = placed f xs c.args.sink.now c.loop-number.sink c.loop-number.number c.size-start.result c.size-start.ensures c.requires.low c.loop-number.invariant in
     record {
-      kept = c.requires.kept;
       there = omega (arith, c.count-number-end.ensures);
       ready = ready_gained f _ _ _ c.args.table.start c.args.table.end (symbols xs) c.loop-number.invariant c.requires.ready;
       started = omega (arith, p, c.size-start.ensures, c.requires.low);

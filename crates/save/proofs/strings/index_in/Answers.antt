@@ -1,15 +1,12 @@
-use Rattle.std.proofs.Common.{arith}
-use Rattle.save.proofs.Stored.{passed_here, passed_more, passed_all}
+use Rattle.std.proofs.Common.{not, ◌∙◌, rules, tests}
+use Rattle.std.proofs.lemmas.Iterator.Search.{YieldsList-from_take_while}
+use Rattle.std.proofs.lemmas.Iterator.Consumers.{YieldsList-at, count_from_yields_List}
+use Rattle.std.proofs.lemmas.List.Folds.{length-prefix_len}
+use Rattle.redbin.specs.Bytes.{same}
+use Rattle.save.proofs.Stored.{strings_yield, index_is}
 use Rattle.save.proofs.strings.index_in.Goals as goal
 
-pub returns-then-is_first : goal.returns-then-is_first
-returns-then-is_first c = passed_here c.args.bytes.now c.loop-left.left.now c.args.name.now c.loop-left.index c.loop-left.invariant.0 (omega arith) c.if-is_first.ensures
-
-pub loop-left-preserved : goal.loop-left-preserved
-loop-left-preserved c = (
-  passed_more c.args.bytes.now c.loop-left.left.now _ c.args.name.now c.loop-left.index c.loop-left.invariant.0 (omega arith) c.if-is_first.ensures c.after_first-left.ensures.rest,
-  omega (arith, c.loop-left.invariant.1, c.after_first-left.ensures.less (omega arith)),
-)
-
 pub returns : goal.returns
-returns c = passed_all c.args.bytes.now c.loop-left.left.now c.args.name.now c.loop-left.index c.loop-left.invariant.0 (omega arith)
+returns c = λ names e k z.
+    count_from_yields_List {v = λ x. x.now} _ _ c.count.ensures.ran (YieldsList-from_take_while _ (λ n. not (same n c.args.name.now)) (YieldsList-at c.take_while.ensures.source (strings_yield (λ s. s.0.now) _ names e k)) c.take_while.ensures.closure c.take_while.ensures.done (λ x b q h. search (rules, tests)))
+    ∙ length-prefix_len _ names ∙ index_is names c.args.name.now

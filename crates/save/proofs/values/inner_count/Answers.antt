@@ -1,28 +1,17 @@
-use Rattle.std.proofs.Common.{◌≡◌, length, sym, ap, ◌∙◌, arith}
-use Rattle.steps.specs.Outline.{values, inner_names}
+use Rattle.std.proofs.Common.{◌-◌, sym, ap, ◌∙◌, arith, rules, tests}
+use Rattle.std.proofs.lemmas.Iterator.{YieldsList-from_range}
+use Rattle.std.proofs.lemmas.Iterator.Consumers.{YieldsList-from_filter, count_from_yields_List}
+use Rattle.steps.specs.Outline.{values, entry_at, inner_names, held_by}
 use Rattle.document.specs.Standing.{standing}
 use Rattle.save.specs.Values.{oldest}
-use Rattle.save.proofs.Oldest.{count_in, count_out}
 use Rattle.save.proofs.Sane.{kept_sound, first_none}
+use Rattle.save.proofs.Numbered.{count_until}
 use Rattle.save.proofs.values.inner_count.Goals as goal
-use Rattle.save.proofs.values.inner_count.Goals.{then-is_held, else-is_held}
-
-pub loop-number-init : goal.loop-number-init
-loop-number-init c =
-    let xs = values (standing c.args.store.now) in
-    let l = c.requires.within in
-    let m = c.requires.after in
-    (sym (ap (λ k. length (inner_names (oldest k xs) c.args.holder)) c.first_inner-number.ensures ∙ ap length (first_none xs c.args.holder (kept_sound c.args.store.now) (omega arith))), omega arith, omega (arith, c.first_inner-number.ensures))
-
-pub loop-number-preserved : goal.loop-number-preserved
-loop-number-preserved c =
-    let xs = values (standing c.args.store.now) in
-    elim c.if-is_held.branch [
-      | then-is_held w ↦ (w.count-is ∙ count_in xs c.args.holder c.loop-number.number _ (omega (arith, c.requires.within)) w.if-is_held.ensures c.loop-number.invariant.0, omega (arith, w.count-is), omega arith)
-      | else-is_held w ↦ (w.count-is ∙ count_out xs c.args.holder c.loop-number.number _ (omega (arith, c.requires.within)) w.if-is_held.ensures c.loop-number.invariant.0, omega (arith, w.count-is), omega arith)
-    ]
 
 pub returns : goal.returns
 returns c =
-    let e : c.loop-number.number ≡ c.args.end = omega arith in
-    c.loop-number.invariant.0 ∙ ap (λ k. length (inner_names (oldest k (values (standing c.args.store.now))) c.args.holder)) e
+    let xs = values (standing c.args.store.now) in
+    let h = c.args.holder in
+    let low = c.first_inner.result in
+    count_from_yields_List {v = λ x. x} _ _ c.count.ensures.ran (YieldsList-from_filter _ (λ v. held_by (entry_at xs v) h) (YieldsList-from_range low c.args.end (c.args.end - low) (cc) (omega arith)) c.filter-inner.ensures.closure (λ x b q k. search (rules, tests)))
+    ∙ sym (count_until xs h low c.args.end (ap (λ k. inner_names (oldest k xs) h) c.first_inner.ensures ∙ first_none xs h (kept_sound c.args.store.now) (omega (arith, c.requires.after, c.requires.within))) (omega (arith, c.requires.after, c.first_inner.ensures)) c.requires.within)

@@ -1,44 +1,47 @@
-use Rattle.std.proofs.Common.{ℕ, ◌+◌, ◌≤◌, ◌++◌, length, sym, refl, ap, ◌∙◌, subst, arith}
-use Rattle.document.specs.declared.store.Store.{Store}
+use Rattle.std.proofs.Common.{◌≡◌, ◌+◌, ◌≤◌, ◌∷◌, length, min, sym, ap, ◌∙◌, subst, arith}
 use Rattle.steps.specs.Given.{tag, begun}
-use Rattle.steps.specs.Law.{codepoints_of}
-use Rattle.steps.specs.Items.{items, room, Sound, Sized}
+use Rattle.steps.specs.Steps.{begin}
+use Rattle.steps.specs.Law.{Memory, points, used, usable, refusal, codepoints_of}
+use Rattle.steps.specs.Items.{room}
 use Rattle.steps.specs.Build.{sort_of}
-use Rattle.steps.specs.declared.pile.Pile.{Pile}
-use Rattle.document.proofs.Adding.{roomy, nothing_less, few, celled_grown}
+use Rattle.document.specs.Standing.{standing, memory_lent}
+use Rattle.document.proofs.Checked.{agrees}
+use Rattle.document.proofs.Adding.{roomy, few, next_laid}
 use Rattle.document.proofs.store.Store.add.Goals as goal
 
-pub sort_of-sort-requires : goal.sort_of-sort-requires
-sort_of-sort-requires c =
+pub sort-sort-requires : goal.sort-sort-requires
+sort-sort-requires c =
     let s = c.args.self.now in
-    let r = roomy s (tag c.args.label) (begun c.args.item) c.requires.kept c.requires.lawful in
-    omega (arith, few s.codepoints (length (codepoints_of (begun c.args.item))) c.requires.kept.points_sound r.point)
+    let b = begun c.args.item in
+    let r = roomy s (tag c.args.label) b c.requires in
+    omega (arith, few s.codepoints (length (codepoints_of b)) r.point)
+
+pub copy_codepoints-requires : goal.copy_codepoints-requires
+copy_codepoints-requires c =
+    let s = c.args.self.now in
+    let r = roomy s (tag c.args.label) (begun c.args.item) c.requires in
+    let q : room s.codepoints ≡ usable (memory_lent s) points = ap (λ n. min (memory_lent s points) n) s.points_bound in
+    subst (λ ps. used (standing s) points + length ps ≤ usable (memory_lent s) points) (sym c.codepoints.ensures) (omega (arith, q, (agrees s).points_used, r.point))
 
 pub add_cell-requires : goal.add_cell-requires
 add_cell-requires c =
     let s = c.args.self.now in
-    let r = roomy s (tag c.args.label) (begun c.args.item) c.requires.kept c.requires.lawful in
-    record { kept = c.requires.kept; room = nothing_less s _ _ r }
-
-pub append-requires : goal.append-requires
-append-requires c =
-    let s = c.args.self.now in
-    let r = roomy s (tag c.args.label) (begun c.args.item) c.requires.kept c.requires.lawful in
-    let same = c.add_cell.ensures.points in
+    let u = c.copy_codepoints.new.self in
+    let l = tag c.args.label in
+    let b = begun c.args.item in
+    let g = c.copy_codepoints.ensures in
+    let e = c.sort-sort.ensures in
+    let is = next_laid u c.count.result c.sort-sort.result b c.codepoints.result.now e c.codepoints.ensures g.laid in
     record {
-      sound = subst Sound (sym same) c.requires.kept.points_sound;
-      fits = subst (λ (p : Pile ℕ). length (items p) + length c.codepoints_of-codepoints.result.now ≤ room p) (sym same)
-          (subst (λ ps. length (items s.codepoints) + length ps ≤ room s.codepoints) (sym c.codepoints_of-codepoints.ensures) r.point);
+      placed = e ∙ ap (λ n. sort_of n b) (c.count.ensures ∙ (agrees s).points_used) ∙ ap (λ x. sort_of (used x points) b) (sym g.told) ∙ ap (sort_of (used (standing u) points)) (sym is);
+      lawful = ap (λ x. refusal (memory_lent u) (standing u) (begin l x)) is ∙ ap (λ x. refusal (memory_lent u) x (begin l b)) g.told ∙ ap (λ (m : Memory). refusal m (standing s) (begin l b)) g.memory ∙ c.requires;
     }
 
 pub returns : goal.returns
 returns c =
-    let s = c.args.self.now in
-    let u = c.add_cell.new.self in
-    let same = c.add_cell.ensures.points in
+    let u = c.copy_codepoints.new.self in
     let l = tag c.args.label in
     let b = begun c.args.item in
-    let t : Store = record { cells = u.cells; codepoints = c.append.new.self; names = u.names; innermost = u.innermost; depth = u.depth } in
-    celled_grown s u t l b c.sort_of-sort.result c.requires.kept c.requires.lawful (c.sort_of-sort.ensures ∙ ap (λ n. sort_of n b) c.count.ensures) c.add_cell.ensures refl refl refl refl
-    c.append.ensures.sound (subst (λ (p : Pile ℕ). Sized p t.codepoints) same c.append.ensures.sized)
-    (c.append.ensures.items ∙ ap (λ (p : Pile ℕ). items p ++ c.codepoints_of-codepoints.result.now) same ∙ ap (λ ps. items s.codepoints ++ ps) c.codepoints_of-codepoints.ensures)
+    let g = c.copy_codepoints.ensures in
+    let is = next_laid u c.count.result c.sort-sort.result b c.codepoints.result.now c.sort-sort.ensures c.codepoints.ensures g.laid in
+    record { memory = c.add_cell.ensures.memory ∙ g.memory; told = c.add_cell.ensures.told ∙ ap (λ x. begin l x ∷ standing u) is ∙ ap (λ e. begin l b ∷ e) g.told }

@@ -8,23 +8,23 @@ pub returns-then-self-ge-DEEPEST : goal.returns-then-self-ge-DEEPEST
 returns-then-self-ge-DEEPEST c =
     let n = c.if-not-name_ok.ensures in
     let v = c.if-not-item_ok.ensures in
-    let d = deep_enough c.args.self.now c.requires (omega arith) in
+    let d = deep_enough c.args.self.now (omega arith) in
     rw (← n, ← v, d)
 
 pub returns-then-not-has_room : goal.returns-then-not-has_room
 returns-then-not-has_room c =
     let n = c.if-not-name_ok.ensures in
     let v = c.if-not-item_ok.ensures in
-    let d = not_deep c.args.self.now c.requires (omega arith) in
+    let d = not_deep c.args.self.now (omega arith) in
     let s = c.args.self.now in
-    let r = c.if-not-has_room.ensures ∙ ap (λ ps. has_room (memory_lent s) (standing s) (so_much 1 (length ps) (length c.args.label.name.now))) c.codepoints_of.ensures in
+    let r = c.if-not-has_room.ensures ∙ ap (λ ps. has_room (memory_lent s) (standing s) (so_much 1 (length ps) (length c.args.label.name.now))) c.codepoints.ensures in
     rw (← n, ← v, d, ← r)
 
 pub returns : goal.returns
 returns c =
     let n = c.if-not-name_ok.ensures in
     let v = c.if-not-item_ok.ensures in
-    let d = not_deep c.args.self.now c.requires (omega arith) in
+    let d = not_deep c.args.self.now (omega arith) in
     let s = c.args.self.now in
-    let r = c.if-not-has_room.ensures ∙ ap (λ ps. has_room (memory_lent s) (standing s) (so_much 1 (length ps) (length c.args.label.name.now))) c.codepoints_of.ensures in
+    let r = c.if-not-has_room.ensures ∙ ap (λ ps. has_room (memory_lent s) (standing s) (so_much 1 (length ps) (length c.args.label.name.now))) c.codepoints.ensures in
     rw (← n, ← v, d, ← r)

@@ -1,51 +1,59 @@
-use Rattle.std.proofs.Common.{◌+◌, ◌-◌, ◌^◌, ◌<◌, sym, refl, ap, subst, arith}
-use Rattle.document.specs.declared.store.Store.{Store}
+use Rattle.std.proofs.Common.{◌+◌, ◌-◌, ◌^◌, ◌<◌, sym, refl, ap, ◌∙◌, subst, arith}
 use Rattle.steps.specs.Steps.{close}
 use Rattle.steps.specs.Items.{items}
-use Rattle.steps.specs.Build.{blank, cell_at, last}
-use Rattle.document.specs.Standing.{in_use}
+use Rattle.steps.specs.Build.{Built, blank, cell_at, last}
+use Rattle.document.specs.Stands.{used_of, lent_of}
+use Rattle.document.specs.Standing.{in_use, memory_lent}
 use Rattle.steps.proofs.Piled.{uses}
-use Rattle.document.proofs.Adding.{grown}
+use Rattle.document.proofs.Agreed.{added}
+use Rattle.document.proofs.Adding.{same_memory, stands_after}
 use Rattle.document.proofs.Closing.{nothing_open, ready, closed_in_use}
 use Rattle.document.proofs.store.Store.close.Goals as goal
 
-pub returns-in-Root : goal.returns-in-Root
-returns-in-Root c = record { kept = c.requires; memory = refl; law = (nothing_open c.args.self.now c.requires c.in-Root.is, refl); still = refl }
+pub returns-in_default : goal.returns-in_default
+returns-in_default c = record { memory = refl; law = (nothing_open c.args.self.now c.in_default.is, refl); still = refl }
 
 pub get-holder-requires : goal.get-holder-requires
-get-holder-requires c =
-    record { sound = c.requires.cells_sound; within = (ready c.args.self.now c.in-At.number c.requires c.in-At.is).within }
+get-holder-requires c = (ready c.args.self.now c.in-At.number c.in-At.is).within
 
-pub overflow_sub-last : goal.overflow_sub-last
-overflow_sub-last c =
-    let r = ready c.args.self.now c.in-At.number c.requires c.in-At.is in
-    omega (arith, r.within, c.count-last.ensures)
-
-pub add_close_in-requires : goal.add_close_in-requires
-add_close_in-requires c =
+pub add_close-requires-clause-room : goal.add_close-requires-clause-room
+add_close-requires-clause-room c =
     let s = c.args.self.now in
-    let r = ready s c.in-At.number c.requires c.in-At.is in
-    let u = uses s.cells c.requires.cells_sound in
-    let f : (last (items s.cells)).closes + 1 < 2 ^ 32 = omega (arith, r.few, u, c.requires.cells_sound.1, c.requires.cells_sound.2) in
-    record {
-      sound = c.requires.cells_sound;
-      inside = omega (arith, r.within, c.count-last.ensures);
-      room = subst (λ n. (cell_at (items s.cells) (n - 1)).closes + 1 < 2 ^ 32) (sym c.count-last.ensures) f;
-    }
+    let r = ready s c.in-At.number c.in-At.is in
+    let f : (last (items s.cells)).closes + 1 < 2 ^ 32 = omega (arith, r.few, uses s.cells, s.cells.bounded, s.cells.small) in
+    subst (λ n. (cell_at (items s.cells) (n - 1)).closes + 1 < 2 ^ 32) (sym c.count-last.ensures) f
 
 pub overflow_sub-self : goal.overflow_sub-self
-overflow_sub-self c =
-    let r = ready c.args.self.now c.in-At.number c.requires c.in-At.is in
-    omega (arith, r.deep)
+overflow_sub-self c = let r = ready c.args.self.now c.in-At.number c.in-At.is in omega (arith, r.deep)
 
-pub returns-in-At : goal.returns-in-At
-returns-in-At c =
+pub invariant_of-self : goal.invariant_of-self
+invariant_of-self c =
     let s = c.args.self.now in
-    let r = ready s c.in-At.number c.requires c.in-At.is in
-    let t : Store =
-    record { cells = c.add_close_in.new.cells; codepoints = s.codepoints; names = s.names; innermost = c.get-holder.result.holder; depth = s.depth - 1 } in
+    let cells = c.add_close.new.self in
+    let t : Built = used_of cells s.codepoints s.names c.get-holder.result.holder (s.depth - 1) in
     let is =
-    closed_in_use (in_use s) (in_use t) c.in-At.number c.count-last.result c.in-At.is c.count-last.ensures c.add_close_in.ensures.items refl refl
+    closed_in_use (in_use s) t c.in-At.number c.count-last.result c.in-At.is c.count-last.ensures c.add_close.ensures.items refl refl
     (ap (λ x. x.holder) (c.get-holder.ensures blank)) refl in
-    let g = grown s t close c.requires r.lawful is c.add_close_in.ensures.sound c.requires.points_sound c.requires.names_sound c.add_close_in.ensures.sized (refl, refl) (refl, refl) in
-    record { kept = g.kept; memory = g.memory; law = (r.lawful, refl, g.told); still = tt }
+    let z = c.add_close.ensures.sized in
+    record {
+      cells_bound = z.1 ∙ s.cells_bound;
+      points_bound = s.points_bound;
+      names_bound = s.names_bound;
+      stands = stands_after (memory_lent s) (lent_of cells s.codepoints s.names) close (in_use s) t s.stands (ready s c.in-At.number c.in-At.is).lawful is
+          (same_memory s.cells cells s.codepoints s.codepoints s.names s.names z (refl, refl) (refl, refl));
+    }
+
+pub returns : goal.returns
+returns c =
+    let s = c.args.self.now in
+    let cells = c.add_close.new.self in
+    let r = ready s c.in-At.number c.in-At.is in
+    let t : Built = used_of cells s.codepoints s.names c.get-holder.result.holder (s.depth - 1) in
+    let is =
+    closed_in_use (in_use s) t c.in-At.number c.count-last.result c.in-At.is c.count-last.ensures c.add_close.ensures.items refl refl
+    (ap (λ x. x.holder) (c.get-holder.ensures blank)) refl in
+    record {
+      memory = same_memory s.cells cells s.codepoints s.codepoints s.names s.names c.add_close.ensures.sized (refl, refl) (refl, refl);
+      law = (r.lawful, refl, (added (memory_lent s) close (in_use s) t s.stands r.lawful is).told);
+      still = tt;
+    }

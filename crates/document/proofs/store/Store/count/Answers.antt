@@ -3,4 +3,4 @@ use Rattle.document.proofs.Reading.{count_is}
 use Rattle.document.proofs.store.Store.count.Goals as goal
 
 pub returns : goal.returns
-returns c = c.count.ensures ∙ count_is c.args.self.now c.requires
+returns c = c.count.ensures ∙ count_is c.args.self.now

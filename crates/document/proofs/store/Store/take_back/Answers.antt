@@ -1,7 +1,10 @@
+use Rattle.std.proofs.Common.{refl, sym, ◌∙◌}
+use Rattle.steps.specs.Items.{items}
+use Rattle.document.proofs.Undone.{none_stands}
 use Rattle.document.proofs.store.Store.take_back.Goals as goal
 
-pub returns-then-cell-gt0 : goal.returns-then-cell-gt0
-returns-then-cell-gt0 c = let g = c.reopen.ensures in record { kept = g.kept; memory = g.memory; law = (g.step, g.told); still = tt }
-
-pub returns-else-cell-gt0 : goal.returns-else-cell-gt0
-returns-else-cell-gt0 c = let g = c.remove.ensures in record { kept = g.kept; memory = g.memory; law = (g.step, g.told); still = tt }
+pub returns-then-count-eq0 : goal.returns-then-count-eq0
+returns-then-count-eq0 c =
+    let s = c.args.self.now in
+    let n = none_stands (items s.codepoints) (items s.names) (items s.cells) (sym c.count-count.ensures ∙ c.if-count-eq0.true) in
+    record { memory = refl; law = (refl, n, n); still = refl }

@@ -1,12 +1,7 @@
-use Rattle.document.proofs.Propositions.{kept_of}
+use Rattle.std.proofs.Common.{sym, ap}
+use Rattle.gillsieve.specs.Events.{answered}
 use Rattle.gillsieve.proofs.Calls.{did_close}
 use Rattle.gillsieve.proofs.draft.Draft.close.Goals as goal
 
-pub close-result-requires : goal.close-result-requires
-close-result-requires c = kept_of _ c.args.self.now.kept
-
-pub invariant_of-self : goal.invariant_of-self
-invariant_of-self c = record { kept = ∣ c.close-result.ensures.kept ∣₁ }
-
 pub returns : goal.returns
-returns c = did_close _ _ c.close-result.result c.answer.result c.answer.ensures c.close-result.ensures
+returns c = did_close _ _ c.close.result _ (sym (ap answered c.in_ok-close.was)) c.close.ensures

@@ -1,26 +1,29 @@
-use Rattle.std.proofs.Common.{sym}
-use Rattle.document.proofs.Propositions.{kept_of}
+use Rattle.std.proofs.Common.{sym, ap}
 use Rattle.gillsieve.specs.Drafts.{steps_of}
+use Rattle.gillsieve.specs.Events.{answered}
+use Rattle.gillsieve.proofs.Calls.{answered_err}
 use Rattle.gillsieve.proofs.Printing.{Giving, print_did, print_listed}
 use Rattle.gillsieve.proofs.draft.Draft.print.Goals as goal
 
-pub has_open-requires : goal.has_open-requires
-has_open-requires g c = kept_of _ c.args.self.now.kept
-
-pub offender-requires : goal.offender-requires
-offender-requires g c = kept_of _ c.args.self.now.kept
-
-pub list_delays-result-requires : goal.list_delays-result-requires
-list_delays-result-requires g c = kept_of _ c.args.self.now.kept
+pub returns-in_err-list_delays : goal.returns-in_err-list_delays
+returns-in_err-list_delays g c =
+    let l = g.L.Listing in
+    let d = c.args.self.now in
+    let s = c.args.listing.now in
+    let t = c.list_delays.new.listing in
+    let r = c.list_delays.result in
+    let q = c.from_residual.result in
+    let given : Giving l.meaning l.holds l.leaves (steps_of d) s t r q =
+    record { shut = sym c.if-has_open.ensures; tuning = sym c.in_default.ensures; gave = c.list_delays.ensures; answers = answered_err r q _ c.in_err-list_delays.was c.from_residual.ensures.1 } in
+    record { did = print_did l.meaning l.holds l.leaves d s t r q given; listed = print_listed l.meaning l.holds l.leaves (steps_of d) s t r q given }
 
 pub returns : goal.returns
 returns g c =
     let l = g.L.Listing in
     let d = c.args.self.now in
     let s = c.args.listing.now in
-    let t = c.list_delays-result.new.listing in
-    let r = c.list_delays-result.result in
-    let q = c.answer.result in
-    let given : Giving l.meaning l.holds l.leaves (steps_of d) s t r q =
-    record { shut = sym c.if-has_open.ensures; tuning = sym c.in_default.ensures; gave = c.list_delays-result.ensures; answers = c.answer.ensures } in
-    record { did = print_did l.meaning l.holds l.leaves d s t r q given; listed = print_listed l.meaning l.holds l.leaves (steps_of d) s t r q given }
+    let t = c.list_delays.new.listing in
+    let r = c.list_delays.result in
+    let given : Giving l.meaning l.holds l.leaves (steps_of d) s t r _ =
+    record { shut = sym c.if-has_open.ensures; tuning = sym c.in_default.ensures; gave = c.list_delays.ensures; answers = sym (ap answered c.in_ok-list_delays.was) } in
+    record { did = print_did l.meaning l.holds l.leaves d s t r _ given; listed = print_listed l.meaning l.holds l.leaves (steps_of d) s t r _ given }

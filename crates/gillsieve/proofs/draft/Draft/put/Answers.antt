@@ -1,12 +1,11 @@
-use Rattle.document.proofs.Propositions.{kept_of}
-use Rattle.gillsieve.proofs.Calls.{did_begin}
+use Rattle.std.proofs.Common.{sym, ap}
+use Rattle.gillsieve.specs.Events.{answered}
+use Rattle.gillsieve.proofs.Calls.{answered_err, did_begin}
 use Rattle.gillsieve.proofs.draft.Draft.put.Goals as goal
 
-pub put-result-requires : goal.put-result-requires
-put-result-requires c = kept_of _ c.args.self.now.kept
-
-pub invariant_of-self : goal.invariant_of-self
-invariant_of-self c = record { kept = ∣ c.put-result.ensures.kept ∣₁ }
+pub returns-in_err-put : goal.returns-in_err-put
+returns-in_err-put c =
+    did_begin _ _ _ _ c.put.result c.from_residual.result (answered_err c.put.result c.from_residual.result _ c.in_err-put.was c.from_residual.ensures.1) c.put.ensures
 
 pub returns : goal.returns
-returns c = did_begin _ _ _ _ c.put-result.result c.answer.result c.answer.ensures c.put-result.ensures
+returns c = did_begin _ _ _ _ c.put.result _ (sym (ap answered c.in_ok-put.was)) c.put.ensures

@@ -1,6 +1,5 @@
 use Rattle.std.proofs.Common.{◌≡◌, ◌%◌, true, false, eqb, length, sym, ap, ◌∙◌, arith}
 use Rattle.std.proofs.lemmas.Bool.Decides.{nat_tests}
-use Rattle.std.proofs.lemmas.Result.{err_from_is_err_and}
 use Rattle.redbin.specs.Reading.{after, heading_of, behind_padding, heading}
 use Rattle.load.specs.Ran.{rest_of}
 use Rattle.load.proofs.Fields.{place_at}
@@ -8,18 +7,9 @@ use Rattle.load.proofs.Headings.{heading_starts}
 use Rattle.load.proofs.Then.{ran_by}
 use Rattle.load.proofs.reader.Reader.heading.Goals as goal
 
-pub returns-in_err-header : goal.returns-in_err-header
+pub returns-then-type_in-eq-PADDING_TYPE : goal.returns-then-type_in-eq-PADDING_TYPE
 unfolding after
-returns-in_err-header c =
-    let p = err_from_is_err_and c.from_residual.result c.from_residual.ensures.1 in
-    rw (p.1, p.2) (record {
-      file = c.in_err-header.ensures.file;
-      ran = λ s q e. heading_starts s _ e ∙ rw (q, c.in_err-header.ensures.ran e);
-    })
-
-pub returns-then-header-eq0 : goal.returns-then-header-eq0
-unfolding after
-returns-then-header-eq0 c =
+returns-then-type_in-eq-PADDING_TYPE c =
     let r = c.args.self.now in
     let w = c.in_ok-header.ensures in
     let z : eqb (c.in_ok-header.header % 256) 0 ≡ true = grind (arith, nat_tests) in
@@ -30,9 +20,9 @@ returns-then-header-eq0 c =
           (c.behind_padding.ensures.ran s (q ∙ ap (λ (x : _). length x.now) (sym w.file)));
     }
 
-pub returns-else-header-eq0 : goal.returns-else-header-eq0
+pub returns-else-type_in-eq-PADDING_TYPE : goal.returns-else-type_in-eq-PADDING_TYPE
 unfolding after
-returns-else-header-eq0 c =
+returns-else-type_in-eq-PADDING_TYPE c =
     let r = c.args.self.now in
     let w = c.in_ok-header.ensures in
     let z : eqb (c.in_ok-header.header % 256) 0 ≡ false = grind (arith, nat_tests) in

@@ -1,22 +1,21 @@
-use Rattle.std.proofs.Common.{◌≡◌, refl, arith, drop-drop, rules}
-use Rattle.load.proofs.Fields.{four_at, number_four, below_short, below_large, below_got}
+use Rattle.std.proofs.Common.{◌∙◌, arith}
+use Rattle.std.proofs.lemmas.Result.{err_from_is_err_and}
+use Rattle.load.proofs.Fields.{le_four, number_short, number_large, number_got}
 use Rattle.load.proofs.reader.Reader.number.Goals as goal
 
-pub returns-then-file-place-lt4 : goal.returns-then-file-place-lt4
-returns-then-file-place-lt4 c = record { file = refl; ran = λ e. below_short _ _ c.args.self.now.within _ 4 _ _ e (omega arith) }
+pub returns-in_err-array : goal.returns-in_err-array
+returns-in_err-array c =
+    let p = err_from_is_err_and c.from_residual.result c.from_residual.ensures.1 in
+    rw (p.1, p.2) (number_short c.args.self.now _ _ 4 _ _ _ c.in_err-array.ensures.did)
 
 pub returns-then-n-end : goal.returns-then-n-end
 returns-then-n-end c =
-    let f = c.args.self.now.file.now in
-    let p = c.args.self.now.place in
-    let v : c.from_le_bytes-n.result ≡ four_at f p = search rules in
-    let n = number_four f p (omega arith) in
-    record { file = refl; ran = λ e. below_large f p c.args.self.now.within _ 4 _ _ e (omega arith) (rw n (omega arith)) }
+    let a = c.in_ok-array.ensures in
+    let n = c.from_le_bytes-n.ensures ∙ le_four _ a.long in
+    rw c.at.ensures (number_large c.args.self.now _ _ 4 _ _ _ a.did (omega arith))
 
 pub returns : goal.returns
 returns c =
-    let f = c.args.self.now.file.now in
-    let p = c.args.self.now.place in
-    let v : c.from_le_bytes-n.result ≡ four_at f p = search rules in
-    let n = number_four f p (omega arith) in
-    record { file = refl; ran = λ e. rw (v, ← n, ← drop-drop 4 p f) (below_got f p c.args.self.now.within _ 4 _ _ e (omega arith) (rw n (omega arith))) }
+    let a = c.in_ok-array.ensures in
+    let n = c.from_le_bytes-n.ensures ∙ le_four _ a.long in
+    rw n (number_got c.args.self.now _ _ 4 _ _ _ a.did (omega arith))

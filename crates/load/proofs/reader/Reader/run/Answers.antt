@@ -1,23 +1,25 @@
-use Rattle.std.proofs.Common.{◌≡◌, ℕ, ◌+◌, ◌-◌, ◌*◌, ◌≤◌, length, refl, ap, arith, length-drop, length-take}
-use Rattle.load.specs.Runs.{width}
+use Rattle.std.proofs.Common.{◌∙◌}
+use Rattle.std.proofs.lemmas.Result.{err_from_is_err_and}
+use Rattle.redbin.specs.Layout.{width}
 use Rattle.load.proofs.Series.{run_short, run_got, run_bad}
+use Rattle.load.proofs.Chunks.{count_of}
 use Rattle.load.proofs.reader.Reader.run.Goals as goal
 
-pub returns-then-file-place : goal.returns-then-file-place
-returns-then-file-place c =
-    let r = c.args.self.now in
-    record { part = tt; moved = tt; long = tt; did = record { file = refl; ran = λ e. run_short r.file.now r.place r.within _ _ _ _ _ e (omega arith) } }
+pub returns-in_err-bytes-clause-did : goal.returns-in_err-bytes-clause-did
+returns-in_err-bytes-clause-did c =
+    let p = err_from_is_err_and c.from_residual.result c.from_residual.ensures.1 in
+    rw (p.1, p.2) (run_short c.args.self.now _ _ _ _ _ c.args.n _ (rw c.span.ensures at c.in_err-bytes.ensures.did))
 
-pub returns-in-None : goal.returns-in-None
-returns-in-None c =
-    let r = c.args.self.now in
-    let fits : c.args.n * width c.args.unit ≤ length r.file.now - r.place = omega arith in
-    let d : r.place + c.span-size.result - r.place ≡ c.args.n * width c.args.unit = omega arith in
-    record { part = rw d; moved = ap (λ (k : ℕ). r.place + k) c.span-size.ensures; long = rw d (simp (length-take, length-drop) (omega arith)); did = record { file = refl; ran = λ e. rw (d, c.span-size.ensures) (run_got r.file.now r.place r.within _ (width c.args.unit) _ _ c.args.n e fits c.in-None.ensures) } }
+pub returns-in-None-clause-did : goal.returns-in-None-clause-did
+returns-in-None-clause-did c =
+    let u = width c.args.unit in
+    let b = c.in_ok-bytes.ensures in
+    let k = count_of c.args.unit c.args.n c.in_ok-bytes.bytes.now (b.long ∙ c.span.ensures) in
+    run_got c.args.self.now _ _ u _ _ c.args.n _ (rw c.span.ensures at b.did) (rw c.span.ensures at b.part) (b.long ∙ c.span.ensures) (rw c.span.ensures at b.moved) (rw k at c.in-None.ensures)
 
-pub returns-in-Some : goal.returns-in-Some
-returns-in-Some c =
-    let r = c.args.self.now in
-    let fits : c.args.n * width c.args.unit ≤ length r.file.now - r.place = omega arith in
-    let b = c.in-Some.ensures in
-    record { part = tt; moved = tt; long = tt; did = record { file = refl; ran = λ e. rw c.span.ensures (run_bad r.file.now r.place r.within _ (width c.args.unit) _ _ c.args.n e fits c.in-Some.i b.0 b.1 b.2) } }
+pub returns-in-Some-clause-did : goal.returns-in-Some-clause-did
+returns-in-Some-clause-did c =
+    let u = width c.args.unit in
+    let b = c.in_ok-bytes.ensures in
+    let k = count_of c.args.unit c.args.n c.in_ok-bytes.bytes.now (b.long ∙ c.span.ensures) in
+    rw (c.at.ensures, c.bytes-in-Some.ensures) (run_bad c.args.self.now _ _ u _ _ c.args.n _ (rw c.span.ensures at b.did) (rw c.span.ensures at b.part) (b.long ∙ c.span.ensures) c.in-Some.i (rw k at c.in-Some.ensures))

@@ -1,9 +1,9 @@
-use Rattle.std.proofs.Common.{refl, arith}
+use Rattle.std.proofs.Common.{arith}
 use Rattle.save.proofs.Blind.{indexed_found, indexed_off}
 use Rattle.save.proofs.sink.WriterSink.index.Goals as goal
 
-pub returns-then-start-end : goal.returns-then-start-end
-returns-then-start-end c = indexed_off _ c.args.table.start c.args.table.end c.args.name.now 0 (λ a b d. omega (arith, c.then-start-end.either))
+pub returns-in-None : goal.returns-in-None
+returns-in-None c = indexed_off _ c.args.table.start c.args.table.end c.args.name.now 0 (λ a b. omega (arith, c.in-None.ensures.lookup.0))
 
-pub returns : goal.returns
-returns c = indexed_found _ c.args.table.start c.args.table.end c.args.name.now c.index_in.result _ refl c.index_in.ensures
+pub returns-in-Some : goal.returns-in-Some
+returns-in-Some c = indexed_found _ c.args.table.start c.args.table.end c.args.name.now c.index_in.result _ c.in-Some.ensures.lookup.0.2 c.index_in.ensures

@@ -1,5 +1,0 @@
-use Rattle.document.specs.Standing.{Kept}
-use Rattle.document_tests.proofs.tests.go_deep.Given as goal
-
-abbrev pub invariant-loop : goal.invariant-loop
-invariant-loop g l = Kept l.store

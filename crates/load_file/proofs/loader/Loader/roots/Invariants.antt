@@ -1,0 +1,5 @@
+use Rattle.load_file.proofs.Roots.{Rooting}
+use Rattle.load_file.proofs.loader.Loader.roots.Given as goal
+
+abbrev pub invariant-loop : goal.invariant-loop
+invariant-loop l = Rooting l.initial.self l.self l.depth.left l.count l.counter

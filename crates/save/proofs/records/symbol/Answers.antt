@@ -1,5 +1,0 @@
-use Rattle.std.proofs.Common.{◌∙◌}
-use Rattle.save.proofs.records.symbol.Goals as goal
-
-pub returns : goal.returns
-returns g c = λ names r z. c.words.ensures ∙ c.index-index.ensures names r z
