@@ -6,7 +6,8 @@ use Rattle.refusal.specs.declared.Reason.TheVariants.{TooDeep, NoMemory, NotAllo
 use Rattle.steps.specs.declared.parts.Node.{Node}
 use Rattle.steps.specs.declared.parts.Node.TheVariants.{Root, At}
 use Rattle.steps.specs.declared.parts.Sort.{Sort}
-use Rattle.steps.specs.declared.parts.Sort.TheVariants.{Nothing, Logic, Char, Integer, Float, Text, Open, Share}
+use Rattle.steps.specs.declared.parts.Content.TheVariants.{Nothing, Logic, Char, Integer, Float, Text}
+use Rattle.steps.specs.declared.parts.Sort.TheVariants.{Put, Open, Share}
 use Rattle.steps.specs.declared.parts.Cell.{Cell}
 use Rattle.steps.specs.declared.pile.Pile.{Pile}
 use Rattle.document.specs.declared.store.Store.{Store}
@@ -85,12 +86,12 @@ pub few : {T : Type 0} (p : Pile T) (n : ℕ) → length (items p) + n ≤ room 
 few p n h = let f = fits p n h in omega (arith, f.1, p.small)
 
 count_room : (P K : ℕ) (s : Sort) → K + 1 < 2 ^ 32 → SortFine P K s → count_in s + 1 < 2 ^ 32
-count_room P K Nothing l h = omega arith
-count_room P K (Logic b) l h = omega arith
-count_room P K (Char n) l h = omega arith
-count_room P K (Integer z) l h = omega arith
-count_room P K (Float n) l h = omega arith
-count_room P K (Text k x s) l h = omega arith
+count_room P K (Put Nothing) l h = omega arith
+count_room P K (Put (Logic b)) l h = omega arith
+count_room P K (Put (Char n)) l h = omega arith
+count_room P K (Put (Integer z)) l h = omega arith
+count_room P K (Put (Float n)) l h = omega arith
+count_room P K (Put (Text k x s)) l h = omega arith
 count_room P K (Open x n) l h = omega (arith, l, h)
 count_room P K (Share x t) l h = omega arith
 
@@ -136,12 +137,12 @@ spanned n (share s t) = refl
 
 -- the codepoints that are taken from free memory are those of the value
 pub taken : (v : Sort) (f : List ℕ) → take (span_of v).len f ≡ codepoints_of (begun_with v (take (span_of v).len f))
-taken Nothing f = refl
-taken (Logic x) f = refl
-taken (Char x) f = refl
-taken (Integer x) f = refl
-taken (Float x) f = refl
-taken (Text k h x) f = refl
+taken (Put Nothing) f = refl
+taken (Put (Logic x)) f = refl
+taken (Put (Char x)) f = refl
+taken (Put (Integer x)) f = refl
+taken (Put (Float x)) f = refl
+taken (Put (Text k h x)) f = refl
 taken (Open h x) f = refl
 taken (Share x t) f = refl
 

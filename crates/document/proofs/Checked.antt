@@ -4,7 +4,8 @@ use Rattle.std.proofs.lemmas.Bool.{lt-ltb, le-ltb}
 use Rattle.steps.specs.declared.parts.Family.{Family}
 use Rattle.steps.specs.declared.parts.Node.TheVariants.{Root, At}
 use Rattle.steps.specs.declared.parts.Sort.{Sort}
-use Rattle.steps.specs.declared.parts.Sort.TheVariants.{Nothing, Logic, Char, Integer, Float, Text, Open, Share}
+use Rattle.steps.specs.declared.parts.Content.TheVariants.{Nothing, Logic, Char, Integer, Float, Text}
+use Rattle.steps.specs.declared.parts.Sort.TheVariants.{Put, Open, Share}
 use Rattle.steps.specs.declared.parts.Cell.{Cell}
 use Rattle.document.specs.declared.store.Store.{Store}
 use Rattle.steps.specs.Steps.{open'}
@@ -31,12 +32,12 @@ object_root [] e = refl
 object_root (o ∷ os) e = absurd cc
 
 object_sort : (p : List ℕ) (s : Sort) → begun_object (begun_of p s) ≡ sort_is_object s
-object_sort p Nothing = refl
-object_sort p (Logic b) = refl
-object_sort p (Char n) = refl
-object_sort p (Integer z) = refl
-object_sort p (Float n) = refl
-object_sort p (Text k h s) = refl
+object_sort p (Put Nothing) = refl
+object_sort p (Put (Logic b)) = refl
+object_sort p (Put (Char n)) = refl
+object_sort p (Put (Integer z)) = refl
+object_sort p (Put (Float n)) = refl
+object_sort p (Put (Text k h s)) = refl
 object_sort p (Open h n) = refl
 object_sort p (Share s t) = refl
 
@@ -62,12 +63,12 @@ in_at s i r c e is got =
 -- ---- targets
 
 family_sort : (p : List ℕ) (s : Sort) → own_family (begun_of p s) ≡ own_family (begun_of [] s)
-family_sort p Nothing = refl
-family_sort p (Logic b) = refl
-family_sort p (Char n) = refl
-family_sort p (Integer z) = refl
-family_sort p (Float n) = refl
-family_sort p (Text k h s) = refl
+family_sort p (Put Nothing) = refl
+family_sort p (Put (Logic b)) = refl
+family_sort p (Put (Char n)) = refl
+family_sort p (Put (Integer z)) = refl
+family_sort p (Put (Float n)) = refl
+family_sort p (Put (Text k h s)) = refl
 family_sort p (Open h n) = refl
 family_sort p (Share s t) = refl
 

@@ -6,7 +6,8 @@ use Rattle.steps.specs.declared.parts.Node.{Node}
 use Rattle.steps.specs.declared.parts.Node.TheVariants.{Root, At}
 use Rattle.steps.specs.declared.parts.Holder.{Holder}
 use Rattle.steps.specs.declared.parts.Sort.{Sort}
-use Rattle.steps.specs.declared.parts.Sort.TheVariants.{Nothing, Logic, Char, Integer, Float, Text, Open, Share}
+use Rattle.steps.specs.declared.parts.Content.TheVariants.{Nothing, Logic, Char, Integer, Float, Text}
+use Rattle.steps.specs.declared.parts.Sort.TheVariants.{Put, Open, Share}
 use Rattle.steps.specs.declared.parts.Cell.{Cell}
 use Rattle.document.specs.declared.store.Store.{Store}
 use Rattle.steps.specs.Adjust.{adjust}
@@ -24,12 +25,12 @@ use Rattle.document.proofs.Reading.{read_at}
 
 -- the count of an opened value's cell is this
 abbrev pub Counts : Sort → ℕ → Type 0
-Counts Nothing n = Unit {0}
-Counts (Logic b) n = Unit {0}
-Counts (Char c) n = Unit {0}
-Counts (Integer z) n = Unit {0}
-Counts (Float f) n = Unit {0}
-Counts (Text k h p) n = Unit {0}
+Counts (Put Nothing) n = Unit {0}
+Counts (Put (Logic b)) n = Unit {0}
+Counts (Put (Char c)) n = Unit {0}
+Counts (Put (Integer z)) n = Unit {0}
+Counts (Put (Float f)) n = Unit {0}
+Counts (Put (Text k h p)) n = Unit {0}
 Counts (Open h c) n = c ≡ n
 Counts (Share s t) n = Unit {0}
 
@@ -38,12 +39,12 @@ abbrev pub AllCount : List Cell → List Entry → Type 0
 AllCount cs xs = (n : ℕ) → n < length cs → Counts (cell_at cs n).sort (length (inner_names xs (At n)))
 
 counts_more : (s : Sort) (n : ℕ) → Counts s n → Counts (more_in s) (n + 1)
-counts_more Nothing n c = tt
-counts_more (Logic b) n c = tt
-counts_more (Char x) n c = tt
-counts_more (Integer z) n c = tt
-counts_more (Float f) n c = tt
-counts_more (Text k h p) n c = tt
+counts_more (Put Nothing) n c = tt
+counts_more (Put (Logic b)) n c = tt
+counts_more (Put (Char x)) n c = tt
+counts_more (Put (Integer z)) n c = tt
+counts_more (Put (Float f)) n c = tt
+counts_more (Put (Text k h p)) n c = tt
 counts_more (Open h x) n c = ap (λ k. k + 1) c
 counts_more (Share s t) n c = tt
 
@@ -135,12 +136,12 @@ counts_build M (close ∷ e) l =
 -- ---- a store
 
 opened_count : (p : List ℕ) (s : Sort) (h : Holder) (n : ℕ) → Some (begun_of p s) ≡ Some (open' h) → Counts s n → count_in s ≡ n
-opened_count p Nothing h n e c = absurd cc
-opened_count p (Logic b) h n e c = absurd cc
-opened_count p (Char x) h n e c = absurd cc
-opened_count p (Integer x) h n e c = absurd cc
-opened_count p (Float f) h n e c = absurd cc
-opened_count p (Text k x t) h n e c = absurd cc
+opened_count p (Put Nothing) h n e c = absurd cc
+opened_count p (Put (Logic b)) h n e c = absurd cc
+opened_count p (Put (Char x)) h n e c = absurd cc
+opened_count p (Put (Integer x)) h n e c = absurd cc
+opened_count p (Put (Float f)) h n e c = absurd cc
+opened_count p (Put (Text k x t)) h n e c = absurd cc
 opened_count p (Open x k) h n e c = c
 opened_count p (Share s t) h n e c = absurd cc
 

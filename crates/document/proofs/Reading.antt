@@ -1,7 +1,8 @@
 -- The values of a store, read off its cells.
 use Rattle.std.proofs.Common.{◌≡◌, ℕ, ◌+◌, ◌<◌, ◌≤◌, List, length, Some, None, sym, refl, ap, ◌∙◌, subst, arith}
 use Rattle.steps.specs.declared.parts.Sort.{Sort}
-use Rattle.steps.specs.declared.parts.Sort.TheVariants.{Nothing, Logic, Char, Integer, Float, Text, Open, Share}
+use Rattle.steps.specs.declared.parts.Content.TheVariants.{Nothing, Logic, Char, Integer, Float, Text}
+use Rattle.steps.specs.declared.parts.Sort.TheVariants.{Put, Open, Share}
 use Rattle.steps.specs.declared.parts.Cell.{Cell}
 use Rattle.document.specs.declared.store.Store.{Store}
 use Rattle.steps.specs.Steps.{Begun}
@@ -30,22 +31,22 @@ fine_at s i l =
     each_at (CellFine (length (items s.codepoints)) (length (items s.names)) (length (items s.cells))) (items s.cells) i blank l (agrees s).good.each
 
 begun_spanned : (p : List ℕ) (s : Sort) → begun_with s (part (span_of s) p) ≡ begun_of p s
-begun_spanned p Nothing = refl
-begun_spanned p (Logic b) = refl
-begun_spanned p (Char n) = refl
-begun_spanned p (Integer z) = refl
-begun_spanned p (Float n) = refl
-begun_spanned p (Text k h s) = refl
+begun_spanned p (Put Nothing) = refl
+begun_spanned p (Put (Logic b)) = refl
+begun_spanned p (Put (Char n)) = refl
+begun_spanned p (Put (Integer z)) = refl
+begun_spanned p (Put (Float n)) = refl
+begun_spanned p (Put (Text k h s)) = refl
 begun_spanned p (Open h n) = refl
 begun_spanned p (Share s t) = refl
 
 span_fine : (P K : ℕ) (s : Sort) → SortFine P K s → (span_of s).start + (span_of s).len ≤ P
-span_fine P K Nothing h = omega arith
-span_fine P K (Logic b) h = omega arith
-span_fine P K (Char n) h = omega arith
-span_fine P K (Integer z) h = omega arith
-span_fine P K (Float n) h = omega arith
-span_fine P K (Text k x s) h = h
+span_fine P K (Put Nothing) h = omega arith
+span_fine P K (Put (Logic b)) h = omega arith
+span_fine P K (Put (Char n)) h = omega arith
+span_fine P K (Put (Integer z)) h = omega arith
+span_fine P K (Put (Float n)) h = omega arith
+span_fine P K (Put (Text k x s)) h = h
 span_fine P K (Open x n) h = omega arith
 span_fine P K (Share x t) h = omega arith
 

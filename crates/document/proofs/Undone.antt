@@ -6,7 +6,8 @@ use Rattle.std.proofs.lemmas.Bool.{ltb-true}
 use Rattle.steps.specs.declared.parts.Node.{Node}
 use Rattle.steps.specs.declared.parts.Node.TheVariants.{Root, At}
 use Rattle.steps.specs.declared.parts.Sort.{Sort}
-use Rattle.steps.specs.declared.parts.Sort.TheVariants.{Nothing, Logic, Char, Integer, Float, Text, Open, Share}
+use Rattle.steps.specs.declared.parts.Content.TheVariants.{Nothing, Logic, Char, Integer, Float, Text}
+use Rattle.steps.specs.declared.parts.Sort.TheVariants.{Put, Open, Share}
 use Rattle.steps.specs.declared.parts.Cell.{Cell}
 use Rattle.document.specs.declared.store.Store.{Store}
 use Rattle.steps.specs.Adjust.{adjust}
@@ -38,22 +39,22 @@ undo_close m =
 -- ---- each change undone
 
 less_more_in : (s : Sort) → less_in (more_in s) ≡ s
-less_more_in Nothing = refl
-less_more_in (Logic b) = refl
-less_more_in (Char n) = refl
-less_more_in (Integer z) = refl
-less_more_in (Float n) = refl
-less_more_in (Text k h p) = refl
+less_more_in (Put Nothing) = refl
+less_more_in (Put (Logic b)) = refl
+less_more_in (Put (Char n)) = refl
+less_more_in (Put (Integer z)) = refl
+less_more_in (Put (Float n)) = refl
+less_more_in (Put (Text k h p)) = refl
 less_more_in (Open h n) = let e : n + 1 - 1 ≡ n = omega arith in ap (λ i. Open h i) e
 less_more_in (Share s t) = refl
 
 shallower_deeper : (s : Sort) (d : ℕ) → shallower s (deeper s d) ≡ d
-shallower_deeper Nothing d = refl
-shallower_deeper (Logic b) d = refl
-shallower_deeper (Char n) d = refl
-shallower_deeper (Integer z) d = refl
-shallower_deeper (Float n) d = refl
-shallower_deeper (Text k h p) d = refl
+shallower_deeper (Put Nothing) d = refl
+shallower_deeper (Put (Logic b)) d = refl
+shallower_deeper (Put (Char n)) d = refl
+shallower_deeper (Put (Integer z)) d = refl
+shallower_deeper (Put (Float n)) d = refl
+shallower_deeper (Put (Text k h p)) d = refl
 shallower_deeper (Open h n) d = omega arith
 shallower_deeper (Share s t) d = refl
 
@@ -181,12 +182,12 @@ pub last_held : (m : Built) (n : ℕ) → Good m → length m.cells ≡ n + 1 �
 last_held m n g l = subst (Under n) (holders_at m.cells n) (below_at 0 n n (holders m.cells) g.below (omega (arith, l, length_holders m.cells)) (omega arith))
 
 pub cut_fine : (P K : ℕ) (s : Sort) → SortFine P K s → cut_at s P ≤ P
-cut_fine P K Nothing h = omega arith
-cut_fine P K (Logic b) h = omega arith
-cut_fine P K (Char n) h = omega arith
-cut_fine P K (Integer z) h = omega arith
-cut_fine P K (Float n) h = omega arith
-cut_fine P K (Text k x s) h = omega (arith, h)
+cut_fine P K (Put Nothing) h = omega arith
+cut_fine P K (Put (Logic b)) h = omega arith
+cut_fine P K (Put (Char n)) h = omega arith
+cut_fine P K (Put (Integer z)) h = omega arith
+cut_fine P K (Put (Float n)) h = omega arith
+cut_fine P K (Put (Text k x s)) h = omega (arith, h)
 cut_fine P K (Open x n) h = omega arith
 cut_fine P K (Share x t) h = omega arith
 

@@ -3,48 +3,12 @@ use crate::words;
 use crate::words::Unread;
 use std::alloc::{AllocError, Global};
 use steps::limits::{CELLS, CODEPOINTS, NAME_BYTES};
-use steps::parts::{Holder, Share, TextKind, Value};
-
-// What a put holds: it owns its codepoints, which a `Value` only borrows.
-#[derive(Drop)]
-pub enum Content {
-    Nothing,
-    Logic(bool),
-    Char(u32),
-    Integer(i32),
-    Float(u64),
-    Text {
-        kind: TextKind,
-        head: u32,
-        codepoints: Vec<u32>,
-    },
-}
-
-impl<'c> From<&'c Content> for Value<'c> {
-    fn from(content: &'c Content) -> Value<'c> {
-        match content {
-            Content::Nothing => Value::Nothing,
-            Content::Logic(b) => Value::Logic(*b),
-            Content::Char(c) => Value::Char(*c),
-            Content::Integer(n) => Value::Integer(*n),
-            Content::Float(bits) => Value::Float(*bits),
-            Content::Text {
-                kind,
-                head,
-                codepoints,
-            } => Value::Text {
-                kind: *kind,
-                head: *head,
-                codepoints: codepoints.as_slice(),
-            },
-        }
-    }
-}
+use steps::parts::{Content, Holder, Share};
 
 // What a value is that a command begins.
 #[derive(Drop)]
 pub enum Begun {
-    Put(Content),
+    Put(Content<Vec<u32>>),
     Open(Holder),
     Share(Share, u32),
 }
@@ -156,7 +120,7 @@ fn read_begun(heap: Global, verb: &str, rest: &[&str]) -> Result<Begun, Unread> 
     }
 }
 
-fn read_value(heap: Global, words: &[&str]) -> Result<Content, Unread> {
+fn read_value(heap: Global, words: &[&str]) -> Result<Content<Vec<u32>>, Unread> {
     match words {
         [sort] if *sort == "none" => Ok(Content::Nothing),
         [sort, word] if words::text_kind(sort).is_none() => read_plain(sort, word),
@@ -169,7 +133,7 @@ fn read_value(heap: Global, words: &[&str]) -> Result<Content, Unread> {
     }
 }
 
-fn read_plain(sort: &str, word: &str) -> Result<Content, Unread> {
+fn read_plain(sort: &str, word: &str) -> Result<Content<Vec<u32>>, Unread> {
     match sort {
         "logic" => Ok(Content::Logic(words::logic(word)?)),
         "char" => Ok(Content::Char(words::number(word)?)),

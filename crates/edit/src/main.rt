@@ -17,7 +17,7 @@ mod words;
 
 fn begin(draft: &mut Draft<'_>, label: Label<'_>, begun: &Begun) -> Result<u32, Refusal> {
     match begun {
-        Begun::Put(content) => draft.put(label, content.into()),
+        Begun::Put(content) => draft.put(label, content.as_ref().map(|points| points.as_slice())),
         Begun::Open(holder) => draft.open(label, *holder),
         Begun::Share(share, target) => draft.share(label, *share, Node::At(*target)),
     }

@@ -59,7 +59,3 @@ module _ {S : Type 0} (f : S → Output) (all : List Entry) (n : ℕ) (within : 
   share_recorded s t u x target ws h e g i =
       subst (λ bs. Gained f s bs u) (share_is x (path_to all target) target (sym (path_to_oldest all n target within (under target h))))
       (fields_then f 4 s t u (share_words l.new_line x) (reference (path_to all target)) (subst (λ z. Gained f s (words z) t) e g) i)
-
-  pub there_all : (t : Node) → There (oldest n all) t → There all t
-  there_all Root h = tt
-  there_all (At m) h = omega (arith, length_oldest all n within)

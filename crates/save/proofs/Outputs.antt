@@ -1,7 +1,7 @@
 -- What more bytes leave.
 use Rattle.std.proofs.Common.{◌≡◌, ℕ, ◌+◌, ◌<◌, ◌≤◌, min, true, false, ltb, List, [], ◌∷◌, ◌++◌, length, get_or, take, set, sym, refl, ap, ◌∙◌, ⊎_elim, arith}
 use Rattle.std.proofs.lemmas.Bool.{lt-ltb, le-ltb, cases_lt}
-use Rattle.std.proofs.lemmas.List.{take_more, take_all, replicate_more, set_past}
+use Rattle.std.proofs.lemmas.List.{take_more, replicate_more}
 use Rattle.redbin.specs.Bytes.{zeros}
 use Rattle.save.specs.Sinks.{Output, full, push, extend, Gained}
 
@@ -39,15 +39,8 @@ module _ {S : Type 0} (f : S → Output) where
   pub gained_more : (s t u : S) (i b : ℕ) (xs : List ℕ) → i < length xs → b ≡ get_or xs i 0 → Gained f s (take i xs) t → f u ≡ push (f t) b → Gained f s (take (i + 1) xs) u
   gained_more s t u i b xs l e g h = rw (take_more xs i 0 l, ← e) (gained_push s t u (take i xs) b g h)
 
-  pub gained_all : (s t : S) (i : ℕ) (xs : List ℕ) → length xs ≤ i → Gained f s (take i xs) t → Gained f s xs t
-  gained_all s t i xs l g = rw (take_all i xs l) at g
-
   pub zeros_more : (s t u : S) (n : ℕ) → Gained f s (zeros n) t → f u ≡ push (f t) 0 → Gained f s (zeros (n + 1)) u
   zeros_more s t u n g h = rw (← replicate_more {X = ℕ} n 0) (gained_push s t u (zeros n) 0 g h)
-
--- a byte past the end of the memory is only counted
-pub push_past : (o : Output) (b : ℕ) → o.size < full → length o.memory ≤ o.size → push o b ≡ record { home = o.home; size = o.size + 1; memory = o.memory }
-push_past o b h l = push_low o b h ∙ ap (λ m. record { home = o.home; size = o.size + 1; memory = m }) (set_past o.memory o.size b l)
 
 -- where the output is full nothing changes
 pub extend_full : (o : Output) (xs : List ℕ) → full ≤ o.size → extend o xs ≡ o

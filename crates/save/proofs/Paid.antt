@@ -2,7 +2,7 @@
 use Rattle.std.proofs.Common.{◌≡◌, ℕ, suc, ◌+◌, ◌-◌, ◌<◌, ◌≤◌, min, List, [], ◌∷◌, ◌++◌, length, Some, None, Option, sym, refl, ap, ◌∙◌, subst, ⊎_elim, arith}
 use Rattle.steps.specs.declared.parts.Node.{Node}
 use Rattle.steps.specs.declared.parts.Share.{Share}
-use Rattle.steps.specs.Steps.{Tag, Begun, share, begin, close, Steps}
+use Rattle.steps.specs.Steps.{Begun, share, begin, close, Steps}
 use Rattle.steps.specs.Outline.{Entry, values, entry_at, begun_at}
 use Rattle.steps.proofs.Entered.{begun_in, begun_entry, entry_first, entry_later}
 use Rattle.redbin.specs.Canonical.{record_of, payload}
@@ -18,11 +18,6 @@ use Rattle.save.proofs.Sane.{Fine, Target, oldest_later}
 module _ {S : Type 0} (f : S → Output) (all : List Entry) (n : ℕ) (place : ℕ) (s : S) where
   pub none_recorded : None ≡ entry_at all n → Gained f s (recorded all n place (entry_at all n)) s
   none_recorded e = subst (λ o. Gained f s (recorded all n place o) s) e (gained_none f s)
-
-  pub some_recorded : (t : S) (x : Entry) (l : Tag) (b : Begun) → Some x ≡ entry_at all n → x.label ≡ l → x.begun ≡ b → Gained f s (record_of all (oldest n all) place l b) t → Gained f s (recorded all n place (entry_at all n)) t
-  some_recorded t x l b e c d g =
-      let h : record_of all (oldest n all) place l b ≡ recorded all n place (entry_at all n) = sym (ap (λ k. record_of all (oldest n all) place k x.begun) c ∙ ap (record_of all (oldest n all) place l) d) ∙ ap (recorded all n place) e in
-      subst (λ bs. Gained f s bs t) h g
 
 pub some_begun : (all : List Entry) (n : ℕ) (x : Entry) → Some x ≡ entry_at all n → begun_at all n ≡ Some x.begun
 some_begun all n x e = begun_entry all n ∙ ap begun_in (sym e)

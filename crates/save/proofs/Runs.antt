@@ -70,6 +70,3 @@ module _ {S : Type 0} (f : S → Output) where
     fields_more s t u i n ns l e g h =
         let w : Gained f t (fields k (n ∷ [])) u = rw (fields_one k n) h in
         rw (take_more ns i 0 l, ← e) (fields_then k s t u (take i ns) (n ∷ []) g w)
-
-    pub fields_all : (s t : S) (i : ℕ) (ns : List ℕ) → length ns ≤ i → Gained f s (fields k (take i ns)) t → Gained f s (fields k ns) t
-    fields_all s t i ns l g = rw (take_all i ns l) at g

@@ -4,7 +4,8 @@ use Rattle.std.proofs.lemmas.List.{length-append, get_or_at}
 use Rattle.steps.specs.declared.parts.Node.{Node}
 use Rattle.steps.specs.declared.parts.Node.TheVariants.{Root, At}
 use Rattle.steps.specs.declared.parts.Sort.{Sort}
-use Rattle.steps.specs.declared.parts.Sort.TheVariants.{Nothing, Logic, Char, Integer, Float, Text, Open, Share}
+use Rattle.steps.specs.declared.parts.Content.TheVariants.{Nothing, Logic, Char, Integer, Float, Text}
+use Rattle.steps.specs.declared.parts.Sort.TheVariants.{Put, Open, Share}
 use Rattle.steps.specs.declared.parts.Cell.{Cell}
 use Rattle.steps.specs.Adjust.{adjust}
 use Rattle.steps.specs.Steps.{Tag, none, logic, char, integer, float, text, Begun, put, open', share, begin, close}
@@ -39,22 +40,22 @@ each_at Q (c ∷ cs) zero d l h = h.0
 each_at Q (c ∷ cs) (suc i) d l h = each_at Q cs i d (omega (arith, l)) h.1
 
 pub sort_fine_more : (P P' K K' : ℕ) (s : Sort) → P ≤ P' → K ≤ K' → SortFine P K s → SortFine P' K' s
-sort_fine_more P P' K K' Nothing a b h = tt
-sort_fine_more P P' K K' (Logic x) a b h = tt
-sort_fine_more P P' K K' (Char n) a b h = tt
-sort_fine_more P P' K K' (Integer z) a b h = tt
-sort_fine_more P P' K K' (Float n) a b h = tt
-sort_fine_more P P' K K' (Text k x s) a b h = omega (arith, a, h)
+sort_fine_more P P' K K' (Put Nothing) a b h = tt
+sort_fine_more P P' K K' (Put (Logic x)) a b h = tt
+sort_fine_more P P' K K' (Put (Char n)) a b h = tt
+sort_fine_more P P' K K' (Put (Integer z)) a b h = tt
+sort_fine_more P P' K K' (Put (Float n)) a b h = tt
+sort_fine_more P P' K K' (Put (Text k x s)) a b h = omega (arith, a, h)
 sort_fine_more P P' K K' (Open x n) a b h = omega (arith, b, h)
 sort_fine_more P P' K K' (Share x t) a b h = tt
 
 pub sort_fine_raised : (P P' K K' : ℕ) (s : Sort) → P ≤ P' → K + 1 ≤ K' → SortFine P K s → SortFine P' K' (more_in s)
-sort_fine_raised P P' K K' Nothing a b h = tt
-sort_fine_raised P P' K K' (Logic x) a b h = tt
-sort_fine_raised P P' K K' (Char n) a b h = tt
-sort_fine_raised P P' K K' (Integer z) a b h = tt
-sort_fine_raised P P' K K' (Float n) a b h = tt
-sort_fine_raised P P' K K' (Text k x s) a b h = omega (arith, a, h)
+sort_fine_raised P P' K K' (Put Nothing) a b h = tt
+sort_fine_raised P P' K K' (Put (Logic x)) a b h = tt
+sort_fine_raised P P' K K' (Put (Char n)) a b h = tt
+sort_fine_raised P P' K K' (Put (Integer z)) a b h = tt
+sort_fine_raised P P' K K' (Put (Float n)) a b h = tt
+sort_fine_raised P P' K K' (Put (Text k x s)) a b h = omega (arith, a, h)
 sort_fine_raised P P' K K' (Open x n) a b h = omega (arith, b, h)
 sort_fine_raised P P' K K' (Share x t) a b h = tt
 
@@ -112,12 +113,12 @@ new_sort_fine p q K (open' h) e = omega arith
 new_sort_fine p q K (share s t) e = tt
 
 pub inside_under : (s : Sort) (n K : ℕ) (o : Node) → n < K → Under n o → Under K (inside s n o)
-inside_under Nothing n K o l h = under_more n K o (omega (arith, l)) h
-inside_under (Logic b) n K o l h = under_more n K o (omega (arith, l)) h
-inside_under (Char c) n K o l h = under_more n K o (omega (arith, l)) h
-inside_under (Integer z) n K o l h = under_more n K o (omega (arith, l)) h
-inside_under (Float f) n K o l h = under_more n K o (omega (arith, l)) h
-inside_under (Text k x p) n K o l h = under_more n K o (omega (arith, l)) h
+inside_under (Put Nothing) n K o l h = under_more n K o (omega (arith, l)) h
+inside_under (Put (Logic b)) n K o l h = under_more n K o (omega (arith, l)) h
+inside_under (Put (Char c)) n K o l h = under_more n K o (omega (arith, l)) h
+inside_under (Put (Integer z)) n K o l h = under_more n K o (omega (arith, l)) h
+inside_under (Put (Float f)) n K o l h = under_more n K o (omega (arith, l)) h
+inside_under (Put (Text k x p)) n K o l h = under_more n K o (omega (arith, l)) h
 inside_under (Open x c) n K o l h = l
 inside_under (Share x t) n K o l h = under_more n K o (omega (arith, l)) h
 

@@ -6,3 +6,4 @@ pub mod Told
 pub mod Good
 pub mod Entered
 pub mod Within
+pub mod Mapped

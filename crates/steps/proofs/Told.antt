@@ -5,7 +5,8 @@ use Rattle.steps.specs.declared.parts.Node.{Node}
 use Rattle.steps.specs.declared.parts.Node.TheVariants.{Root, At}
 use Rattle.steps.specs.declared.parts.Span.{Span}
 use Rattle.steps.specs.declared.parts.Sort.{Sort}
-use Rattle.steps.specs.declared.parts.Sort.TheVariants.{Nothing, Logic, Char, Integer, Float, Text, Open, Share}
+use Rattle.steps.specs.declared.parts.Content.TheVariants.{Nothing, Logic, Char, Integer, Float, Text}
+use Rattle.steps.specs.declared.parts.Sort.TheVariants.{Put, Open, Share}
 use Rattle.steps.specs.declared.parts.Cell.{Cell}
 use Rattle.steps.specs.Adjust.{adjust}
 use Rattle.steps.specs.Steps.{none, logic, char, integer, float, text, Begun, put, open', share, close}
@@ -29,12 +30,12 @@ entries_push p n (d ∷ cs) c = ap (λ ys. ys ++ (entry_of p n d ∷ [])) (entri
 -- ---- one more inner value
 
 pub begun_more : (p : List ℕ) (s : Sort) → begun_of p (more_in s) ≡ begun_of p s
-begun_more p Nothing = refl
-begun_more p (Logic b) = refl
-begun_more p (Char n) = refl
-begun_more p (Integer z) = refl
-begun_more p (Float n) = refl
-begun_more p (Text k h s) = refl
+begun_more p (Put Nothing) = refl
+begun_more p (Put (Logic b)) = refl
+begun_more p (Put (Char n)) = refl
+begun_more p (Put (Integer z)) = refl
+begun_more p (Put (Float n)) = refl
+begun_more p (Put (Text k h s)) = refl
 begun_more p (Open h n) = refl
 begun_more p (Share s t) = refl
 
@@ -75,12 +76,12 @@ tell_shut p n (c ∷ (d ∷ cs)) (suc i) e =
 -- ---- more codepoints and name bytes
 
 abbrev pub SortFine : ℕ → ℕ → Sort → Type 0
-SortFine P K Nothing = Unit {0}
-SortFine P K (Logic b) = Unit {0}
-SortFine P K (Char n) = Unit {0}
-SortFine P K (Integer z) = Unit {0}
-SortFine P K (Float n) = Unit {0}
-SortFine P K (Text k h s) = s.start + s.len ≤ P
+SortFine P K (Put Nothing) = Unit {0}
+SortFine P K (Put (Logic b)) = Unit {0}
+SortFine P K (Put (Char n)) = Unit {0}
+SortFine P K (Put (Integer z)) = Unit {0}
+SortFine P K (Put (Float n)) = Unit {0}
+SortFine P K (Put (Text k h s)) = s.start + s.len ≤ P
 SortFine P K (Open h n) = n ≤ K
 SortFine P K (Share s t) = Unit {0}
 
@@ -101,12 +102,12 @@ part_grow s xs ys h =
     ap (λ zs. take s.len zs) (drop-append-le s.start xs ys a) ∙ take-append-le s.len (drop s.start xs) ys b
 
 pub begun_grow : (p q : List ℕ) (K : ℕ) (s : Sort) → SortFine (length p) K s → begun_of (p ++ q) s ≡ begun_of p s
-begun_grow p q K Nothing f = refl
-begun_grow p q K (Logic b) f = refl
-begun_grow p q K (Char n) f = refl
-begun_grow p q K (Integer z) f = refl
-begun_grow p q K (Float n) f = refl
-begun_grow p q K (Text k h s) f = ap (λ xs. put (text k h xs)) (part_grow s p q f)
+begun_grow p q K (Put Nothing) f = refl
+begun_grow p q K (Put (Logic b)) f = refl
+begun_grow p q K (Put (Char n)) f = refl
+begun_grow p q K (Put (Integer z)) f = refl
+begun_grow p q K (Put (Float n)) f = refl
+begun_grow p q K (Put (Text k h s)) f = ap (λ xs. put (text k h xs)) (part_grow s p q f)
 begun_grow p q K (Open h n) f = refl
 begun_grow p q K (Share s t) f = refl
 

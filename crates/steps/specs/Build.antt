@@ -5,7 +5,8 @@ use Rattle.steps.specs.declared.parts.Node.TheVariants.{Root, At}
 use Rattle.steps.specs.declared.parts.Family.{Family}
 use Rattle.steps.specs.declared.parts.Span.{Span}
 use Rattle.steps.specs.declared.parts.Sort.{Sort}
-use Rattle.steps.specs.declared.parts.Sort.TheVariants.{Nothing, Logic, Char, Integer, Float, Text, Open, Share}
+use Rattle.steps.specs.declared.parts.Content.TheVariants.{Nothing, Logic, Char, Integer, Float, Text}
+use Rattle.steps.specs.declared.parts.Sort.TheVariants.{Put, Open, Share}
 use Rattle.steps.specs.declared.parts.Cell.{Cell}
 use Rattle.steps.specs.Adjust.{adjust}
 use Rattle.steps.specs.Steps.{Tag, none, logic, char, integer, float, text, Begun, put, open', share, Step, begin, close, Steps}
@@ -16,32 +17,17 @@ use Rattle.steps.specs.Law.{codepoints_of}
 
 -- one more, or one less, inner value
 abbrev pub more_in : Sort → Sort
-more_in Nothing = Nothing
-more_in (Logic b) = Logic b
-more_in (Char n) = Char n
-more_in (Integer z) = Integer z
-more_in (Float n) = Float n
-more_in (Text k h p) = Text k h p
+more_in (Put v) = Put v
 more_in (Open h n) = Open h (n + 1)
 more_in (Share s t) = Share s t
 
 abbrev pub less_in : Sort → Sort
-less_in Nothing = Nothing
-less_in (Logic b) = Logic b
-less_in (Char n) = Char n
-less_in (Integer z) = Integer z
-less_in (Float n) = Float n
-less_in (Text k h p) = Text k h p
+less_in (Put v) = Put v
 less_in (Open h n) = Open h (n - 1)
 less_in (Share s t) = Share s t
 
 abbrev pub count_in : Sort → ℕ
-count_in Nothing = 0
-count_in (Logic b) = 0
-count_in (Char n) = 0
-count_in (Integer z) = 0
-count_in (Float n) = 0
-count_in (Text k h p) = 0
+count_in (Put v) = 0
 count_in (Open h n) = n
 count_in (Share s t) = 0
 
@@ -59,7 +45,7 @@ abbrev pub unshut : Cell → Cell
 unshut c = record { new_line = c.new_line; name = c.name; holder = c.holder; closes = c.closes - 1; sort = c.sort }
 
 abbrev pub blank : Cell
-blank = record { new_line = false; name = record { start = 0; len = 0 }; holder = Root; closes = 0; sort = Nothing }
+blank = record { new_line = false; name = record { start = 0; len = 0 }; holder = Root; closes = 0; sort = (Put Nothing) }
 
 abbrev pub cell_at : List Cell → ℕ → Cell
 cell_at cs i = slice_index_or cs i blank
@@ -81,44 +67,29 @@ pub record Built : Type 0 where
 
 -- the sort of a value that begins where `from` codepoints are in use
 abbrev pub sort_of : ℕ → Begun → Sort
-sort_of «from» (put none) = Nothing
-sort_of «from» (put (logic b)) = Logic b
-sort_of «from» (put (char n)) = Char n
-sort_of «from» (put (integer z)) = Integer z
-sort_of «from» (put (float n)) = Float n
-sort_of «from» (put (text k h ps)) = Text k h (record { start = «from»; len = length ps })
+sort_of «from» (put none) = Put Nothing
+sort_of «from» (put (logic b)) = Put (Logic b)
+sort_of «from» (put (char n)) = Put (Char n)
+sort_of «from» (put (integer z)) = Put (Integer z)
+sort_of «from» (put (float n)) = Put (Float n)
+sort_of «from» (put (text k h ps)) = Put (Text k h (record { start = «from»; len = length ps }))
 sort_of «from» (open' h) = Open h 0
 sort_of «from» (share s t) = Share s t
 
 -- the innermost open value once the value of this sort and number has begun
 abbrev pub inside : Sort → ℕ → Node → Node
-inside Nothing n o = o
-inside (Logic b) n o = o
-inside (Char c) n o = o
-inside (Integer z) n o = o
-inside (Float f) n o = o
-inside (Text k h p) n o = o
+inside (Put v) n o = o
 inside (Open h c) n o = At n
 inside (Share s t) n o = o
 
 -- how many are open then, and how many were before
 abbrev pub deeper : Sort → ℕ → ℕ
-deeper Nothing d = d
-deeper (Logic b) d = d
-deeper (Char c) d = d
-deeper (Integer z) d = d
-deeper (Float f) d = d
-deeper (Text k h p) d = d
+deeper (Put v) d = d
 deeper (Open h c) d = d + 1
 deeper (Share s t) d = d
 
 abbrev pub shallower : Sort → ℕ → ℕ
-shallower Nothing d = d
-shallower (Logic b) d = d
-shallower (Char c) d = d
-shallower (Integer z) d = d
-shallower (Float f) d = d
-shallower (Text k h p) d = d
+shallower (Put v) d = d
 shallower (Open h c) d = d - 1
 shallower (Share s t) d = d
 
@@ -167,12 +138,12 @@ abbrev pub part : Span → List ℕ → List ℕ
 part s xs = take s.len (drop s.start xs)
 
 abbrev pub begun_of : List ℕ → Sort → Begun
-begun_of ps Nothing = put none
-begun_of ps (Logic b) = put (logic b)
-begun_of ps (Char n) = put (char n)
-begun_of ps (Integer z) = put (integer z)
-begun_of ps (Float n) = put (float n)
-begun_of ps (Text k h s) = put (text k h (part s ps))
+begun_of ps (Put Nothing) = put none
+begun_of ps (Put (Logic b)) = put (logic b)
+begun_of ps (Put (Char n)) = put (char n)
+begun_of ps (Put (Integer z)) = put (integer z)
+begun_of ps (Put (Float n)) = put (float n)
+begun_of ps (Put (Text k h s)) = put (text k h (part s ps))
 begun_of ps (Open h n) = open' h
 begun_of ps (Share s t) = share s t
 
@@ -227,12 +198,12 @@ ups os (suc n) o = up os (ups os n o)
 
 -- how many codepoints stand before those of the last value, of `all`
 abbrev pub cut_at : Sort → ℕ → ℕ
-cut_at Nothing all = all
-cut_at (Logic b) all = all
-cut_at (Char n) all = all
-cut_at (Integer z) all = all
-cut_at (Float n) all = all
-cut_at (Text k h s) all = s.start
+cut_at (Put Nothing) all = all
+cut_at (Put (Logic b)) all = all
+cut_at (Put (Char n)) all = all
+cut_at (Put (Integer z)) all = all
+cut_at (Put (Float n)) all = all
+cut_at (Put (Text k h s)) all = s.start
 cut_at (Open h n) all = all
 cut_at (Share s t) all = all
 
@@ -251,21 +222,21 @@ sort_is_object s = begun_object (begun_of [] s)
 
 -- the part of the codepoints that a value of this sort has, and the value that it is with these
 abbrev pub span_of : Sort → Span
-span_of Nothing = record { start = 0; len = 0 }
-span_of (Logic b) = record { start = 0; len = 0 }
-span_of (Char n) = record { start = 0; len = 0 }
-span_of (Integer z) = record { start = 0; len = 0 }
-span_of (Float n) = record { start = 0; len = 0 }
-span_of (Text k h s) = s
+span_of (Put Nothing) = record { start = 0; len = 0 }
+span_of (Put (Logic b)) = record { start = 0; len = 0 }
+span_of (Put (Char n)) = record { start = 0; len = 0 }
+span_of (Put (Integer z)) = record { start = 0; len = 0 }
+span_of (Put (Float n)) = record { start = 0; len = 0 }
+span_of (Put (Text k h s)) = s
 span_of (Open h n) = record { start = 0; len = 0 }
 span_of (Share s t) = record { start = 0; len = 0 }
 
 abbrev pub begun_with : Sort → List ℕ → Begun
-begun_with Nothing ps = put none
-begun_with (Logic b) ps = put (logic b)
-begun_with (Char n) ps = put (char n)
-begun_with (Integer z) ps = put (integer z)
-begun_with (Float n) ps = put (float n)
-begun_with (Text k h s) ps = put (text k h ps)
+begun_with (Put Nothing) ps = put none
+begun_with (Put (Logic b)) ps = put (logic b)
+begun_with (Put (Char n)) ps = put (char n)
+begun_with (Put (Integer z)) ps = put (integer z)
+begun_with (Put (Float n)) ps = put (float n)
+begun_with (Put (Text k h s)) ps = put (text k h ps)
 begun_with (Open h n) ps = open' h
 begun_with (Share s t) ps = share s t

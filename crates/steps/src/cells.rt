@@ -4,7 +4,7 @@ ghost use Rattle.steps.specs.Adjust.{adjust};
 ghost use Rattle.steps.specs.Items.{items, Sized};
 ghost use Rattle.steps.specs.Build.{more, less, shut, unshut, count_in, adjust_at, inside, deeper, shallower, Under, AtCell, Raisable, cell_at, holders, up, ups, cut_at, sort_suits, sort_is_object, span_of};
 
-use crate::parts::{Cell, Family, Holder, Node, Sort, Span};
+use crate::parts::{Cell, Content, Family, Holder, Node, Sort, Span};
 use crate::pile::Pile;
 
 impl Cell {
@@ -113,7 +113,7 @@ impl Sort {
         ensures { result ≡ cut_at self all }
     {
         match self {
-            Sort::Text { codepoints, .. } => codepoints.start,
+            Sort::Put(Content::Text { codepoints, .. }) => codepoints.start,
             _ => all,
         }
     }
@@ -123,7 +123,7 @@ impl Sort {
         ensures { result ≡ span_of self }
     {
         match self {
-            Sort::Text { codepoints, .. } => codepoints,
+            Sort::Put(Content::Text { codepoints, .. }) => codepoints,
             _ => Span { start: 0, len: 0 },
         }
     }
@@ -143,7 +143,7 @@ impl Sort {
         ensures { result ≡ sort_suits self family }
     {
         match self {
-            Sort::Text { .. } => matches!(family, Family::Texts),
+            Sort::Put(Content::Text { .. }) => matches!(family, Family::Texts),
             Sort::Open {
                 holder: Holder::List { .. },
                 ..

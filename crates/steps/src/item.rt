@@ -1,17 +1,64 @@
 // What a step begins: whether its fields are in their ranges, and what a cell holds of it.
 ghost use Rattle.std.specs.Prelude.{◌≡◌, ◌^◌, ◌<◌, length};
-ghost use Rattle.steps.specs.Given.{content, begun};
+ghost use Rattle.steps.specs.Given.{content, begun, mapped, InText};
 ghost use Rattle.steps.specs.Outline.{is_object, share_family};
 ghost use Rattle.steps.specs.Law.{codepoints_ok, content_ok, holder_ok, share_ok, codepoints_of};
 ghost use Rattle.steps.specs.Build.{sort_of, begun_object, begun_with};
 
 use crate::limits::{CODEPOINT_END, FIELD_END};
-use crate::parts::{Family, Holder, Item, Share, Sort, Span, Value};
+use crate::parts::{Content, Family, Holder, Item, Share, Sort, Span, Value};
 
 fn codepoints_ok(codepoints: &[u32]) -> bool
     ensures { result ≡ codepoints_ok codepoints.now }
 {
     codepoints.iter().all(|point| *point < CODEPOINT_END)
+}
+
+impl<C> Content<C> {
+    // The same with its codepoints where they are.
+    pub fn as_ref(&self) -> Content<&C>
+        ensures { mapped (λ c. c.now) result ≡ self.now }
+    {
+        match self {
+            Content::Nothing => Content::Nothing,
+            Content::Logic(b) => Content::Logic(*b),
+            Content::Char(point) => Content::Char(*point),
+            Content::Integer(n) => Content::Integer(*n),
+            Content::Float(bits) => Content::Float(*bits),
+            Content::Text {
+                kind,
+                head,
+                codepoints,
+            } => Content::Text {
+                kind: *kind,
+                head: *head,
+                codepoints,
+            },
+        }
+    }
+
+    // The same with its codepoints given in another way.
+    pub fn map<D, F: FnOnce(C) -> D>(self, change: F) -> Content<D>
+        requires { InText (F.pre change) self }
+        ensures { (f : C → D) → ((x : C) (y : D) → F.post change x y → y ≡ f x) → result ≡ mapped f self }
+    {
+        match self {
+            Content::Nothing => Content::Nothing,
+            Content::Logic(b) => Content::Logic(b),
+            Content::Char(point) => Content::Char(point),
+            Content::Integer(n) => Content::Integer(n),
+            Content::Float(bits) => Content::Float(bits),
+            Content::Text {
+                kind,
+                head,
+                codepoints,
+            } => Content::Text {
+                kind,
+                head,
+                codepoints: change(codepoints),
+            },
+        }
+    }
 }
 
 impl<'v> Value<'v> {
@@ -91,25 +138,10 @@ impl<'v> Item<'v> {
         ensures { result ≡ sort_of from (begun self.entry) }
     {
         match self {
-            Item::Put(Value::Nothing) => Sort::Nothing,
-            Item::Put(Value::Logic(b)) => Sort::Logic(b),
-            Item::Put(Value::Char(point)) => Sort::Char(point),
-            Item::Put(Value::Integer(n)) => Sort::Integer(n),
-            Item::Put(Value::Float(bits)) => Sort::Float(bits),
-            Item::Put(
-                Value::Text {
-                    kind,
-                    head,
-                    codepoints,
-                },
-            ) => Sort::Text {
-                kind,
-                head,
-                codepoints: Span {
-                    start: from,
-                    len: codepoints.len() as u32,
-                },
-            },
+            Item::Put(value) => Sort::Put(value.map(|codepoints| Span {
+                start: from,
+                len: codepoints.len() as u32,
+            })),
             Item::Open(holder) => Sort::Open { holder, count: 0 },
             Item::Share(share, target) => Sort::Share { share, target },
         }
@@ -122,16 +154,7 @@ impl Sort {
         ensures { begun result ≡ begun_with self codepoints.now }
     {
         match self {
-            Sort::Nothing => Item::Put(Value::Nothing),
-            Sort::Logic(b) => Item::Put(Value::Logic(b)),
-            Sort::Char(point) => Item::Put(Value::Char(point)),
-            Sort::Integer(n) => Item::Put(Value::Integer(n)),
-            Sort::Float(bits) => Item::Put(Value::Float(bits)),
-            Sort::Text { kind, head, .. } => Item::Put(Value::Text {
-                kind,
-                head,
-                codepoints,
-            }),
+            Sort::Put(value) => Item::Put(value.map(|_| codepoints)),
             Sort::Open { holder, .. } => Item::Open(holder),
             Sort::Share { share, target } => Item::Share(share, target),
         }

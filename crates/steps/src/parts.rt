@@ -25,7 +25,7 @@ pub enum Family {
     Objects,
 }
 
-// The root of a document, or a value by its number.
+// The root of a document, or a value by its number. No `Option`: the root is a holder, and `None` would read as no holder.
 #[derive(Clone, Copy, PartialEq, Eq, Debug)]
 pub enum Node {
     Root,
@@ -39,9 +39,9 @@ pub struct Label<'n> {
     pub name: &'n [u8],
 }
 
-// A value that holds no others. A float is its 64 bits.
-#[derive(Clone, Copy, PartialEq, Eq, Debug)]
-pub enum Value<'v> {
+// A value that holds no others, by how its codepoints are given. A float is its 64 bits.
+#[derive(Clone, Copy, PartialEq, Eq, Debug, Drop)]
+pub enum Content<C> {
     Nothing,
     Logic(bool),
     Char(u32),
@@ -50,9 +50,12 @@ pub enum Value<'v> {
     Text {
         kind: TextKind,
         head: u32,
-        codepoints: &'v [u32],
+        codepoints: C,
     },
 }
+
+// As callers give it.
+pub type Value<'v> = Content<&'v [u32]>;
 
 // A value that holds others.
 #[derive(Clone, Copy, PartialEq, Eq, Debug)]
@@ -104,24 +107,9 @@ pub struct Span {
 // The value of a cell. Its codepoints are a part of their own memory; `count` is how many values it holds.
 #[derive(Clone, Copy, PartialEq, Eq, Debug)]
 pub enum Sort {
-    Nothing,
-    Logic(bool),
-    Char(u32),
-    Integer(i32),
-    Float(u64),
-    Text {
-        kind: TextKind,
-        head: u32,
-        codepoints: Span,
-    },
-    Open {
-        holder: Holder,
-        count: u32,
-    },
-    Share {
-        share: Share,
-        target: Node,
-    },
+    Put(Content<Span>),
+    Open { holder: Holder, count: u32 },
+    Share { share: Share, target: Node },
 }
 
 // A value, what holds it, and how many closes come right after it, before the next value begins.
@@ -140,5 +128,5 @@ pub const FREE: Cell = Cell {
     name: Span { start: 0, len: 0 },
     holder: Node::Root,
     closes: 0,
-    sort: Sort::Nothing,
+    sort: Sort::Put(Content::Nothing),
 };

@@ -1,6 +1,6 @@
 ghost use Rattle.std.specs.Prelude.{◌≡◌, ℕ, ◌+◌, ◌^◌, ◌<◌, ◌≤◌, min, [], ◌∷◌, ◌++◌, length, take, drop, nat_le, slice_index_or, slice_set};
 
-// The first `used` elements of a memory that its owner lends. It never uses more than `bound`.
+// The first `used` elements of a memory that its owner lends. It never uses more than `bound`. No `Vec`: a draft has no heap.
 #[derive(Drop)]
 pub struct Pile<'a, T> {
     pub(crate) memory: &'a mut [T],

@@ -7,7 +7,7 @@ ghost use Rattle.steps.specs.Build.{sort_of};
 ghost use Rattle.document.specs.Standing.{standing, memory_lent, free_points, next_value, Grown, Laid, Wrote};
 
 use crate::store::Store;
-use steps::parts::{Cell, Label, Sort, Span, TextKind};
+use steps::parts::{Cell, Content, Label, Sort, Span, TextKind};
 
 impl<'a> Store<'a> {
     // Adds a value of this sort whose codepoints are the first of free memory.
@@ -64,11 +64,11 @@ impl<'a> Store<'a> {
         };
         self.add_cell(
             label,
-            Sort::Text {
+            Sort::Put(Content::Text {
                 kind,
                 head,
                 codepoints,
-            },
+            }),
         );
     }
 }

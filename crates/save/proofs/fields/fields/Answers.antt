@@ -1,5 +1,5 @@
 use Rattle.std.proofs.Common.{arith, rules}
-use Rattle.save.proofs.Runs.{width_low, gained_low, fields_none, fields_more, fields_all}
+use Rattle.save.proofs.Runs.{width_low, gained_low, fields_none, fields_more}
 use Rattle.save.proofs.fields.fields.Goals as goal
 
 pub loop-number-init : goal.loop-number-init
@@ -9,6 +9,3 @@ pub loop-number-preserved : goal.loop-number-preserved
 loop-number-preserved g c =
     let low = gained_low g.S.Sink.output _ _ c.bytes-size.result 4 _ _ (omega (arith, c.bytes-size.ensures, width_low c.args.unit)) c.to_le_bytes.ensures c.bytes.ensures in
     fields_more g.S.Sink.output c.bytes-size.result _ _ _ c.loop-number.number-index _ c.args.numbers.now c.loop-number-test.true (search rules) c.loop-number.invariant low
-
-pub returns : goal.returns
-returns g c = rw (← c.bytes-size.ensures) (fields_all g.S.Sink.output c.bytes-size.result _ _ c.loop-number.number-index c.args.numbers.now c.loop-number-test.false c.loop-number.invariant)

@@ -1,9 +1,9 @@
-use Rattle.std.proofs.Common.{Some, refl, ap, ◌∙◌, arith}
+use Rattle.std.proofs.Common.{Some, ap, ◌∙◌, arith}
 use Rattle.steps.specs.Given.{begun}
 use Rattle.steps.specs.Outline.{values}
 use Rattle.document.specs.Standing.{standing}
 use Rattle.save.proofs.Sane.{kept_fine}
-use Rattle.save.proofs.Paid.{none_recorded, some_recorded, some_begun, fine_target}
+use Rattle.save.proofs.Paid.{none_recorded, some_begun, fine_target}
 use Rattle.save.proofs.records.Payload.record.Goals as goal
 
 pub returns-in_default : goal.returns-in_default
@@ -24,18 +24,3 @@ share-requires g c =
       there = fine_target xs (kept_fine c.args.self.now.store.now) c.args.number _ _ c.requires.there (some_begun xs c.args.number _ c.in-Some.ensures ∙ ap (λ i. Some (begun i)) c.in-Share.is);
       within = omega (arith, c.requires.there);
     }
-
-pub returns-in-Put : goal.returns-in-Put
-returns-in-Put g c = λ place p.
-    let xs = values (standing c.args.self.now.store.now) in
-    some_recorded g.S.Sink.output xs c.args.number place c.args.sink.now _ _ _ _ c.in-Some.ensures refl (ap begun c.in-Put.is) (c.put.ensures xs _ place p)
-
-pub returns-in-Open : goal.returns-in-Open
-returns-in-Open g c = λ place p.
-    let xs = values (standing c.args.self.now.store.now) in
-    some_recorded g.S.Sink.output xs c.args.number place c.args.sink.now _ _ _ _ c.in-Some.ensures refl (ap begun c.in-Open.is) (c.open.ensures place)
-
-pub returns-in-Share : goal.returns-in-Share
-returns-in-Share g c = λ place p.
-    let xs = values (standing c.args.self.now.store.now) in
-    some_recorded g.S.Sink.output xs c.args.number place c.args.sink.now _ _ _ _ c.in-Some.ensures refl (ap begun c.in-Share.is) (c.share.ensures place)
