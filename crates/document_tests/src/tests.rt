@@ -59,6 +59,7 @@ fn share(store: &mut Store<'_>, share: Share, target: Node) -> Result<u32, Reaso
     store.share(label, share, target)
 }
 
+// By number, as people and programs name a reason.
 fn refused(answer: Result<u32, Reason>, number: u32) -> bool {
     match answer {
         Ok(_) => false,

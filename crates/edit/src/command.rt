@@ -1,24 +1,17 @@
 // Commands: what a line asks for.
 use crate::words;
 use crate::words::Unread;
+use redbin::layout::LARGEST_FILE;
 use std::alloc::{AllocError, Global};
 use steps::limits::{CELLS, CODEPOINTS, NAME_BYTES};
-use steps::parts::{Content, Holder, Share};
-
-// What a value is that a command begins.
-#[derive(Drop)]
-pub enum Begun {
-    Put(Content<Vec<u32>>),
-    Open(Holder),
-    Share(Share, u32),
-}
+use steps::parts::{Begun, Content, Holder, Node, Share};
 
 #[derive(Drop)]
 pub enum Command {
     Begin {
         new_line: bool,
         name: Vec<u8>,
-        begun: Begun,
+        begun: Begun<Vec<u32>>,
     },
     Close,
     TakeBack,
@@ -57,9 +50,6 @@ pub const FULL: Sizes = Sizes {
 // The most of each memory that a script can ask for.
 const MOST: u32 = 1_000_000;
 
-// The most bytes that a script can ask for in an output or a listing.
-const LARGEST_ROOM: u32 = 1_048_576;
-
 // The words of a line, which single spaces part.
 pub fn words_of<'t>(heap: Global, line: &'t str) -> Result<Vec<&'t str>, AllocError> {
     line.split(' ').collect(heap)
@@ -84,11 +74,11 @@ pub fn read_command(heap: Global, words: &[&str]) -> Result<Command, Unread> {
         [verb] if *verb == "take-back" => Ok(Command::TakeBack),
         [verb, bytes] if *verb == "load" => Ok(Command::Load(words::bytes(heap, bytes)?)),
         [verb, room] if *verb == "save" => Ok(Command::Save {
-            room: words::number_to(LARGEST_ROOM, room)?,
+            room: words::number_to(LARGEST_FILE as u32, room)?,
         }),
         [verb, kind, room] if *verb == "print" => Ok(Command::Print {
             kind: Kind::try_from(*kind)?,
-            room: words::number_to(LARGEST_ROOM, room)?,
+            room: words::number_to(LARGEST_FILE as u32, room)?,
         }),
         [verb, mark, name, rest @ ..] => Ok(Command::Begin {
             new_line: words::mark(mark, "newline")?,
@@ -111,7 +101,7 @@ impl TryFrom<&str> for Kind {
     }
 }
 
-fn read_begun(heap: Global, verb: &str, rest: &[&str]) -> Result<Begun, Unread> {
+fn read_begun(heap: Global, verb: &str, rest: &[&str]) -> Result<Begun<Vec<u32>>, Unread> {
     match verb {
         "put" => Ok(Begun::Put(read_value(heap, rest)?)),
         "open" => Ok(Begun::Open(read_holder(rest)?)),
@@ -137,7 +127,7 @@ fn read_plain(sort: &str, word: &str) -> Result<Content<Vec<u32>>, Unread> {
     match sort {
         "logic" => Ok(Content::Logic(words::logic(word)?)),
         "char" => Ok(Content::Char(words::number(word)?)),
-        "integer" => Ok(Content::Integer(words::integer(word)?)),
+        "integer" => Ok(Content::Integer(words::number(word)?)),
         "float" => Ok(Content::Float(words::bits(word)?)),
         _ => Err(Unread::Unknown),
     }
@@ -160,7 +150,7 @@ fn read_holder(words: &[&str]) -> Result<Holder, Unread> {
     }
 }
 
-fn read_share(words: &[&str]) -> Result<Begun, Unread> {
+fn read_share(words: &[&str]) -> Result<Begun<Vec<u32>>, Unread> {
     let [sort, field, target] = words else {
         return Err(Unread::Unknown);
     };
@@ -175,5 +165,6 @@ fn read_share(words: &[&str]) -> Result<Begun, Unread> {
         let head = words::number(field)?;
         Share::List { kind, head }
     };
-    Ok(Begun::Share(share, words::number(target)?))
+    let target = Node::At(words::number(target)?);
+    Ok(Begun::Share(share, target))
 }

@@ -1,7 +1,7 @@
 // Runs a script of calls on a draft, and answers each with one line.
 #![tactic(auto)]
 
-use command::{Begun, Command, FULL, Kind, Sizes, read_command, read_memory, words_of};
+use command::{Command, FULL, Kind, Sizes, read_command, read_memory, words_of};
 use document::store::Memories;
 use gillsieve::draft::Draft;
 use listing::forms::{Header, LineForm, Table};
@@ -9,17 +9,18 @@ use listing::lines::Lines;
 use refusal::Refusal;
 use std::io;
 use std::io::Write;
-use steps::parts::{FREE, Label, Node};
+use steps::parts::{Begun, FREE, Label};
 use words::Unread;
 
 mod command;
 mod words;
 
-fn begin(draft: &mut Draft<'_>, label: Label<'_>, begun: &Begun) -> Result<u32, Refusal> {
+// Each arm makes another call with arguments of its own, here and in `perform`, so a table of calls would be no plainer.
+fn begin(draft: &mut Draft<'_>, label: Label<'_>, begun: &Begun<Vec<u32>>) -> Result<u32, Refusal> {
     match begun {
         Begun::Put(content) => draft.put(label, content.as_ref().map(|points| points.as_slice())),
         Begun::Open(holder) => draft.open(label, *holder),
-        Begun::Share(share, target) => draft.share(label, *share, Node::At(*target)),
+        Begun::Share(share, target) => draft.share(label, *share, *target),
     }
 }
 
@@ -35,11 +36,9 @@ fn save(rt: &HostRuntime, draft: &Draft<'_>, room: usize) -> anyhow::Result<()> 
     let mut output = vec![in rt.alloc(); 0u8; room]?;
     match draft.save(&mut output) {
         Ok(length) => {
-            print!(rt; "accepted {length} x")?;
-            for byte in output.iter().take(length) {
-                print!(rt; "{byte:02x}")?;
-            }
-            println!(rt)?;
+            let file = output.as_slice().get(..length).unwrap_or(&[]);
+            let digits = hex::encode(rt.alloc(), file)?;
+            println!(rt; "accepted {length} x{digits}")?;
         }
         Err(refusal) => println!(rt; "{refusal}")?,
     }
@@ -133,15 +132,13 @@ fn session(rt: &HostRuntime, lines: &[&str], start: usize, sizes: Sizes) -> anyh
 fn run(rt: &HostRuntime) -> anyhow::Result<()> {
     let text = io::read_to_string(rt.alloc(), rt.stdin())?;
     let lines: Vec<&str> = text.lines().collect(rt.alloc())?;
-    let mut begun = false;
     for (at, line) in lines.iter().enumerate() {
         let words = words_of(rt.alloc(), line)?;
         match read_memory(words.as_slice()) {
             Some(sizes) => session(rt, lines.as_slice(), at, sizes)?,
-            None if !begun => session(rt, lines.as_slice(), at, FULL)?,
+            None if at == 0 => session(rt, lines.as_slice(), at, FULL)?,
             None => (),
         }
-        begun = true;
     }
     Ok(())
 }

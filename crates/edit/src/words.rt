@@ -2,6 +2,7 @@
 use hex::{FromHex, FromHexError};
 use std::alloc::{AllocError, AllocFailed, Global};
 use std::num::ParseIntError;
+use std::str::FromStr;
 use steps::parts::{ListKind, TextKind};
 
 // Why a line is not read as a command.
@@ -40,29 +41,21 @@ impl From<FromHexError> for Unread {
     }
 }
 
-// A decimal number that fits 32 bits.
-pub fn number(word: &str) -> Result<u32, Unread> {
+// A decimal number that fits its type, with no plus before it.
+pub fn number<N: FromStr<Err = ParseIntError>>(word: &str) -> Result<N, Unread> {
     if word.starts_with('+') {
         return Err(Unread::Unknown);
     }
-    Ok(word.parse::<u32>()?)
+    Ok(word.parse::<N>()?)
 }
 
 // A decimal number that is at most so large.
 pub fn number_to(most: u32, word: &str) -> Result<usize, Unread> {
-    let n = number(word)?;
+    let n: u32 = number(word)?;
     if n > most {
         return Err(Unread::Unknown);
     }
     Ok(n as usize)
-}
-
-// A decimal number, with a minus or not, that fits 32 bits.
-pub fn integer(word: &str) -> Result<i32, Unread> {
-    if word.starts_with('+') {
-        return Err(Unread::Unknown);
-    }
-    Ok(word.parse::<i32>()?)
 }
 
 // Which of two words it is.

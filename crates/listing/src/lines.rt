@@ -14,7 +14,7 @@ use crate::writes::{line_size, put_line};
 use refusal::Reason;
 use std::marker::PhantomData;
 
-// Lines of a form, in the first bytes of lent memory.
+// Lines of a form, in the first bytes of lent memory. How many are used stands beside, since no call has a heap.
 #[derive(Drop)]
 pub struct Lines<M: Memory, F: LineForm> {
     memory: M,

@@ -2,7 +2,7 @@ ghost use Rattle.std.specs.Prelude.{◌≡◌};
 ghost use Rattle.std.specs.List.{list_all};
 ghost use Rattle.listing.specs.Pairs.{pair_of, good, good_name, good_delay, name_byte};
 
-// A name and a delay in milliseconds, -1 for never.
+// A name and a delay in milliseconds, -1 for never. No `Option`: it is the document's own integer, and any is taken and judged.
 #[derive(Clone, Copy)]
 pub struct Entry<'a> {
     pub name: &'a [u8],

@@ -8,6 +8,7 @@ use Rattle.document.specs.declared.store.Store.{Store}
 use Rattle.document.specs.Standing.{standing, memory_lent}
 use Rattle.redbin.specs.Reading.{Setting, Reads, got, refused, in_memory}
 use Rattle.load.specs.declared.reader.Reader.{Reader}
+use Rattle.load.specs.declared.filler.Filler.{Filler}
 use Rattle.load.specs.Ran.{state, rest_of, size_of}
 
 -- a reading came from these bytes and steps to this answer, and to those bytes and steps if it was not refused
@@ -30,6 +31,11 @@ pub record Filled {A : Type 0} (r : Reader) (b : Store) (m : Setting → Reads A
   pub file : s.file ≡ r.file
   pub memory : memory_lent t ≡ memory_lent b
   pub came : (c : Setting) → c.size ≡ size_of r → c.uses ≡ in_memory (memory_lent b) → Came (m c) (rest_of r) (standing b) answer (rest_of s) (standing t)
+
+-- a call took a filler to another, as a definition says; it fills the same store
+pub record Fills {A : Type 0} (m : Setting → Reads A) (a : Filler) (answer : Result A Refusal) (z : Filler) : Type 0 where
+  pub filled : Filled a.reader a.store.now m answer z.reader z.store.now
+  pub lent : z.store.ghost_name ≡ a.store.ghost_name
 
 -- the records of a payload of this size
 abbrev pub with_payload : ℕ → Setting → Setting

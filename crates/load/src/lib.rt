@@ -3,6 +3,7 @@
 
 pub mod add;
 pub mod encoded;
+pub mod filler;
 pub mod header;
 pub mod holders;
 pub mod paths;

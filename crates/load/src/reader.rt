@@ -9,7 +9,7 @@ mod start;
 mod symbols;
 
 // A place in a file that is read from its first byte to its last. The whole file is kept beside the place, since refusals name
-// places, and names of values are looked up at places before it.
+// places.
 #[derive(Drop)]
 pub struct Reader<'f> {
     file: &'f [u8],

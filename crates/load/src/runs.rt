@@ -13,7 +13,8 @@ pub fn span(unit: Width, n: u32) -> usize
     n as usize * unit.bytes() as usize
 }
 
-// The number that the first four bytes stand for, or all of them where there are fewer.
+// The number that the first four bytes stand for, or all of them where there are fewer. Any length is taken, so that a width is
+// no parameter; `word` is apart, since its four bytes need no match.
 pub fn number(bytes: &[u8]) -> u32
     ensures { result ≡ number (take 4 bytes.now) }
 {

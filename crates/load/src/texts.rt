@@ -5,13 +5,13 @@ ghost use Rattle.steps.specs.Law.{points, used, usable, content_ok};
 ghost use Rattle.document.specs.Standing.{standing, memory_lent};
 ghost use Rattle.redbin.specs.Bytes.{fill};
 ghost use Rattle.redbin.specs.Reading.{add, add_text};
-ghost use Rattle.load.specs.Filled.{Ready, Added, Filled};
+ghost use Rattle.load.specs.Filled.{Ready, Added, Fills};
 ghost use Rattle.redbin.specs.Layout.{width};
 ghost use Rattle.load.specs.Runs.{entries};
 ghost use Rattle.load.specs.Texts.{Decoded, decoded};
 
 use crate::encoded::Encoded;
-use crate::reader::Reader;
+use crate::filler::Filler;
 use crate::runs::{number, span};
 use crate::start::Start;
 use document::store::Store;
@@ -52,28 +52,25 @@ fn add_decoded(store: &mut Store<'_>, start: Start<'_>, text: Encoded<'_>) -> Re
     Ok(())
 }
 
-// A text's head, length, codepoints and the zeros behind them.
-pub fn add_text(
-    reader: &mut Reader<'_>,
-    store: &mut Store<'_>,
-    start: Start<'_>,
-    kind: TextKind,
-    unit: Width,
-) -> Result<(), Refusal>
-    requires { Ready store.old (tag start.label).name }
-    ensures { Filled reader.old store.old (λ c. add_text c start.entry.place (tag start.entry.label) kind (width unit)) result reader.new store.new }
-{
-    let part = Part::Record;
-    let head = reader.word(part)?;
-    let count = reader.number(part, TEXT_LENGTH_END, Reason::Large)?;
-    let bytes = reader.run(part, unit, CODEPOINT_END, Reason::BadContent, count)?;
-    reader.run(part, Width::One, 1, Reason::BadContent, fill(bytes.len()))?;
-    let text = Encoded {
-        kind,
-        head,
-        unit,
-        count,
-        bytes,
-    };
-    add_decoded(store, start, text)
+impl Filler<'_, '_, '_> {
+    // A text's head, length, codepoints and the zeros behind them.
+    pub fn add_text(&mut self, start: Start<'_>, kind: TextKind, unit: Width) -> Result<(), Refusal>
+        requires { Ready self.old.store.now (tag start.label).name }
+        ensures { Fills (λ c. add_text c start.entry.place (tag start.entry.label) kind (width unit)) self.old result self.new }
+    {
+        let part = Part::Record;
+        let reader = &mut self.reader;
+        let head = reader.word(part)?;
+        let count = reader.number(part, TEXT_LENGTH_END, Reason::Large)?;
+        let bytes = reader.run(part, unit, CODEPOINT_END, Reason::BadContent, count)?;
+        reader.run(part, Width::One, 1, Reason::BadContent, fill(bytes.len()))?;
+        let text = Encoded {
+            kind,
+            head,
+            unit,
+            count,
+            bytes,
+        };
+        add_decoded(self.store, start, text)
+    }
 }

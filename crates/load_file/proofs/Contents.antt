@@ -10,7 +10,8 @@ use Rattle.redbin.specs.declared.form.Form.{Form}
 use Rattle.redbin.specs.Reading.{Reader as State, Setting, Reads, Heading, refused, because, after, return, content, heading, value}
 use Rattle.load.specs.declared.reader.Reader.{Reader}
 use Rattle.load.specs.Ran.{DidIn, state, rest_of}
-use Rattle.load.specs.Filled.{Added, Filled, with_payload}
+use Rattle.load.specs.declared.filler.Filler.{Filler}
+use Rattle.load.specs.Filled.{Added, Filled, Fills, with_payload}
 use Rattle.load_file.specs.declared.scope.Scope.{Scope}
 use Rattle.load_file.specs.Scopes.{within}
 use Rattle.load_file.proofs.Binds.{labelled, value_in, value_deep}
@@ -30,18 +31,18 @@ pub added_fills : (r : Reader) (b t : Store) (m : Setting → Reads (Unit {0})) 
 added_fills r b t m answer d = record { file = refl; memory = d.memory; came = λ c e u. d.came c (rest_of r) u }
 
 -- a value that holds no others is read alike whatever reads the values in it
-pub leaf_paid : (k : Scope) (n place : ℕ) (l : Tag) (f g : Form) (r s : Reader) (b t : Store) (answer : Result (Unit {0}) Refusal) → f ≡ g
-    → ((one : Name → Reads (Unit {0})) → Filled r b (λ c. content (with_payload k.payload c) one place l g) answer s t) → Filled r b (λ c. content (within k c) (value (within k c) n) place l f) answer s t
-leaf_paid k n place l f g r s b t answer e h =
-    let one : Name → Reads (Unit {0}) = λ _. return tt in
-    subst (λ (f : Form). Filled r b (λ c. content (within k c) (value (within k c) n) place l f) answer s t) (sym e)
-    (record { file = (h one).file; memory = (h one).memory; came = λ c q u. (h (value (within k c) n)).came (within k c) q u })
+pub leaf_paid : (k : Scope) (n place : ℕ) (l : Tag) (f g : Form) (a z : Filler) (answer : Result (Unit {0}) Refusal) → f ≡ g
+    → ((one : Name → Reads (Unit {0})) → Fills (λ c. content (with_payload k.payload c) one place l g) a answer z) → Fills (λ c. content (within k c) (value (within k c) n) place l f) a answer z
+leaf_paid k n place l f g a z answer e h =
+    let x = h (λ _. return tt) in
+    subst (λ (f : Form). Fills (λ c. content (within k c) (value (within k c) n) place l f) a answer z) (sym e)
+    (record { filled = record { file = x.filled.file; memory = x.filled.memory; came = λ c q u. (h (value (within k c) n)).filled.came (within k c) q u }; lent = x.lent })
 
 -- so it is where the size of the payload makes no difference
-pub leaf_filled : (k : Scope) (n place : ℕ) (l : Tag) (f g : Form) (r s : Reader) (b t : Store) (answer : Result (Unit {0}) Refusal) → f ≡ g
-    → ((one : Name → Reads (Unit {0})) → Filled r b (λ c. content c one place l g) answer s t) → Filled r b (λ c. content (within k c) (value (within k c) n) place l f) answer s t
-leaf_filled k n place l f g r s b t answer e h =
-    leaf_paid k n place l f g r s b t answer e (λ one. record { file = (h one).file; memory = (h one).memory; came = λ c q u. (h one).came (with_payload k.payload c) q u })
+pub leaf_fills : (k : Scope) (n place : ℕ) (l : Tag) (f g : Form) (a z : Filler) (answer : Result (Unit {0}) Refusal) → f ≡ g
+    → ((one : Name → Reads (Unit {0})) → Fills (λ c. content c one place l g) a answer z) → Fills (λ c. content (within k c) (value (within k c) n) place l f) a answer z
+leaf_fills k n place l f g a z answer e h =
+    leaf_paid k n place l f g a z answer e (λ one. let x = h one in record { filled = record { file = x.filled.file; memory = x.filled.memory; came = λ c q u. x.filled.came (with_payload k.payload c) q u }; lent = x.lent })
 
 -- ---- a value's header
 

@@ -12,6 +12,7 @@ use Rattle.redbin.specs.Layout.{flags_place, table_flag}
 use Rattle.redbin.specs.Reading.{Reader as State, Setting, Uses, Read, Reads, got, refused, because, after, refuse_when, word, each, value, records, symbol_table, return, start_of_file, whole_file, answer, read, load, in_memory, ◌>>◌}
 use Rattle.redbin.proofs.Loaded.{table_got}
 use Rattle.load.specs.Ends.{payload_rest, nothing_left}
+use Rattle.load.specs.declared.filler.Filler.{Filler}
 use Rattle.load.specs.Ran.{state, size_of, rest_of}
 use Rattle.load.specs.Filled.{Filled}
 use Rattle.load.proofs.Tabled.{after_after}
@@ -26,19 +27,19 @@ use Rattle.load_file.proofs.Turns.{opened_kept}
 -- ---- the root values, one after another
 
 -- where the reading of n root values stands, i of them are read
-pub record Rooting (a z : Loader) (depth n i : ℕ) : Type 0 where
-  pub file : z.reader.file ≡ a.reader.file
+pub record Rooting (a : Loader) (b : Filler) (z : Loader) (t : Filler) (depth n i : ℕ) : Type 0 where
+  pub file : t.reader.file ≡ b.reader.file
   pub deep : depth ≡ 32
-  pub lent : z.store.ghost_name ≡ a.store.ghost_name
+  pub lent : t.store.ghost_name ≡ b.store.ghost_name
   pub scope : z.scope ≡ a.scope
-  pub memory : memory_lent z.store.now ≡ memory_lent a.store.now
-  pub same : opened (standing z.store.now) ≡ opened (standing a.store.now)
+  pub memory : memory_lent t.store.now ≡ memory_lent b.store.now
+  pub same : opened (standing t.store.now) ≡ opened (standing b.store.now)
   pub came :
-      (c : Setting) → c.size ≡ size_of a.reader → c.uses ≡ in_memory (memory_lent a.store.now)
-      → each (value (within a.scope c) 32) (replicate (n - i) []) (state (rest_of z.reader) (standing z.store.now)) ≡ each (value (within a.scope c) 32) (replicate n []) (state (rest_of a.reader) (standing a.store.now))
+      (c : Setting) → c.size ≡ size_of b.reader → c.uses ≡ in_memory (memory_lent b.store.now)
+      → each (value (within a.scope c) 32) (replicate (n - i) []) (state (rest_of t.reader) (standing t.store.now)) ≡ each (value (within a.scope c) 32) (replicate n []) (state (rest_of b.reader) (standing b.store.now))
 
-pub root_start : (a : Loader) (n : ℕ) → Rooting a a 32 n 0
-root_start a n =
+pub root_start : (a : Loader) (b : Filler) (n : ℕ) → Rooting a b a b 32 n 0
+root_start a b n =
     let z : n - 0 ≡ n = omega arith in
     record { file = refl; deep = refl; lent = refl; scope = refl; memory = refl; same = refl; came = λ c q u. rw z }
 
@@ -46,57 +47,61 @@ empty_ok : (os : List Opened) → 32 + length os ≡ 32 → name_ok os [] ≡ tr
 empty_ok [] h = refl
 empty_ok (o ∷ os) h = absurd (omega arith)
 
-module _ (a z : Loader) (p : Prepared 32 a.store.now) (depth n i : ℕ) (inv : Rooting a z depth n i) where
-  pub root_prepared : Prepared depth z.store.now
+module _ (a : Loader) (b : Filler) (z : Loader) (t : Filler) (p : Prepared 32 b.store.now) (depth n i : ℕ) (inv : Rooting a b z t depth n i) where
+  pub root_prepared : Prepared depth t.store.now
   root_prepared = rw (inv.deep, inv.same) p
 
-  pub root_named : name_ok (opened (standing z.store.now)) [] ≡ true
-  root_named = empty_ok (opened (standing z.store.now)) (rw inv.same p)
+  pub root_named : name_ok (opened (standing t.store.now)) [] ≡ true
+  root_named = empty_ok (opened (standing t.store.now)) (rw inv.same p)
 
-  module _ (lt : i < n) (y : Loader) where
+  module _ (lt : i < n) (y : Loader) (s : Filler) where
     one_more : replicate {A = Name} (n - i) [] ≡ [] ∷ replicate (n - (i + 1)) []
     one_more = let e : n - i ≡ suc (n - (i + 1)) = omega arith in ap (λ (j : ℕ). replicate {A = Name} j []) e
 
-    one_read : (answer : Result (Unit {0}) Refusal) → LoaderRead (λ c. value c depth []) z answer y → Filled z.reader z.store.now (λ c. value (within a.scope c) 32 []) answer y.reader y.store.now
-    one_read answer g = rw (inv.scope, inv.deep) at g.filled
+    one_read : (answer : Result (Unit {0}) Refusal) → LoaderRead (λ c. value c depth []) z t answer y s → Filled t.reader t.store.now (λ c. value (within a.scope c) 32 []) answer s.reader s.store.now
+    one_read answer g = rw (inv.scope, inv.deep) at g.fills.filled
 
-    pub root_again : (d : ℕ) → d ≡ depth → LoaderRead (λ c. value c depth []) z (Ok tt) y → Rooting a y d n (i + 1)
+    pub root_again : (d : ℕ) → d ≡ depth → LoaderRead (λ c. value c depth []) z t (Ok tt) y s → Rooting a b y s d n (i + 1)
     unfolding each after
     root_again d q g =
         let f = one_read (Ok tt) g in
         record {
           file = f.file ∙ inv.file;
           deep = q ∙ inv.deep;
-          lent = g.lent ∙ inv.lent;
+          lent = g.fills.lent ∙ inv.lent;
           scope = g.scope ∙ inv.scope;
           memory = f.memory ∙ inv.memory;
-          same = opened_kept a.scope a.lawful 32 [] z.reader y.reader z.store.now y.store.now (rw inv.same p) root_named f ∙ inv.same;
-          came = λ c e u. let v = f.came c (e ∙ sym (same_size a.reader z.reader inv.file)) (u ∙ ap in_memory (sym inv.memory)) in rw (one_more, v) at (inv.came c e u);
+          same = opened_kept a.scope a.lawful 32 [] t.reader s.reader t.store.now s.store.now (rw inv.same p) root_named f ∙ inv.same;
+          came = λ c e u. let v = f.came c (e ∙ sym (same_size b.reader t.reader inv.file)) (u ∙ ap in_memory (sym inv.memory)) in rw (one_more, v) at (inv.came c e u);
         }
 
-    pub root_broke : (w : Refusal) → LoaderRead (λ c. value c depth []) z (Err w) y → LoaderRead (λ c. each (value c 32) (replicate n [])) a (Err w) y
+    pub root_broke : (w : Refusal) → LoaderRead (λ c. value c depth []) z t (Err w) y s → LoaderRead (λ c. each (value c 32) (replicate n [])) a b (Err w) y s
     unfolding each after
     root_broke w g =
         let f = one_read (Err w) g in
         record {
-          filled = record {
-            file = f.file ∙ inv.file;
-            memory = f.memory ∙ inv.memory;
-            came = λ c e u. let v = f.came c (e ∙ sym (same_size a.reader z.reader inv.file)) (u ∙ ap in_memory (sym inv.memory)) in sym (rw (one_more, v) at (inv.came c e u));
+          fills = record {
+            filled = record {
+              file = f.file ∙ inv.file;
+              memory = f.memory ∙ inv.memory;
+              came = λ c e u. let v = f.came c (e ∙ sym (same_size b.reader t.reader inv.file)) (u ∙ ap in_memory (sym inv.memory)) in sym (rw (one_more, v) at (inv.came c e u));
+            };
+            lent = g.fills.lent ∙ inv.lent;
           };
-          lent = g.lent ∙ inv.lent;
           scope = g.scope ∙ inv.scope;
         }
 
-  pub root_end : n ≤ i → LoaderRead (λ c. each (value c 32) (replicate n [])) a (Ok tt) z
+  pub root_end : n ≤ i → LoaderRead (λ c. each (value c 32) (replicate n [])) a b (Ok tt) z t
   unfolding each
   root_end le = record {
-    filled = record {
-      file = inv.file;
-      memory = inv.memory;
-      came = λ c e u. let z : n - i ≡ 0 = omega arith in sym (rw z at (inv.came c e u));
+    fills = record {
+      filled = record {
+        file = inv.file;
+        memory = inv.memory;
+        came = λ c e u. let z : n - i ≡ 0 = omega arith in sym (rw z at (inv.came c e u));
+      };
+      lent = inv.lent;
     };
-    lent = inv.lent;
     scope = inv.scope;
   }
 

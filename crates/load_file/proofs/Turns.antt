@@ -10,6 +10,7 @@ use Rattle.redbin.specs.Reading.{Setting, after, each, value, in_memory}
 use Rattle.redbin.proofs.Drafted.{InDraft}
 use Rattle.redbin.proofs.Kept.{value_kept}
 use Rattle.load.specs.declared.reader.Reader.{Reader}
+use Rattle.load.specs.declared.filler.Filler.{Filler}
 use Rattle.load.specs.Ran.{state, size_of, rest_of}
 use Rattle.load.specs.Filled.{Filled}
 use Rattle.load.specs.Tables.{table_of}
@@ -31,53 +32,53 @@ opened_kept k table d n r s b t deep named g =
     (value_kept c table d n (state (rest_of r) (standing b)) tt (state (rest_of s) (standing t)) (g.came c' refl refl) b.stands.lawful deep named).1
 
 -- where the reading of a level's values stands, which began with these
-pub record Turning (at : ℕ) (first : List Name) (a z : Loader) (left : ℕ) : Type 0 where
-  pub file : z.reader.file ≡ a.reader.file
+pub record Turning (at : ℕ) (first : List Name) (a : Loader) (b : Filler) (z : Loader) (t : Filler) (left : ℕ) : Type 0 where
+  pub file : t.reader.file ≡ b.reader.file
   pub depth : left ≡ at
-  pub lent : z.store.ghost_name ≡ a.store.ghost_name
+  pub lent : t.store.ghost_name ≡ b.store.ghost_name
   pub scope : z.scope ≡ a.scope
-  pub memory : memory_lent z.store.now ≡ memory_lent a.store.now
-  pub same : opened (standing z.store.now) ≡ opened (standing a.store.now)
-  pub levels : (i : ℕ) → at + 1 ≤ i → record_at z.levels.now.records i ≡ record_at a.levels.now.records i
-  pub named : Named (in_object (opened (standing a.store.now))) (names_left (table_of a.scope.symbols) (record_at z.levels.now.records at))
+  pub memory : memory_lent t.store.now ≡ memory_lent b.store.now
+  pub same : opened (standing t.store.now) ≡ opened (standing b.store.now)
+  pub levels : (i : ℕ) → at + 1 ≤ i → record_at z.levels.records i ≡ record_at a.levels.records i
+  pub named : Named (in_object (opened (standing b.store.now))) (names_left (table_of a.scope.symbols) (record_at z.levels.records at))
   pub came :
-      (c : Setting) → c.size ≡ size_of a.reader → c.uses ≡ in_memory (memory_lent a.store.now)
-      → each (value (within a.scope c) at) (names_left (table_of a.scope.symbols) (record_at z.levels.now.records at)) (state (rest_of z.reader) (standing z.store.now))
-      ≡ each (value (within a.scope c) at) first (state (rest_of a.reader) (standing a.store.now))
+      (c : Setting) → c.size ≡ size_of b.reader → c.uses ≡ in_memory (memory_lent b.store.now)
+      → each (value (within a.scope c) at) (names_left (table_of a.scope.symbols) (record_at z.levels.records at)) (state (rest_of t.reader) (standing t.store.now))
+      ≡ each (value (within a.scope c) at) first (state (rest_of b.reader) (standing b.store.now))
 
 -- one value is read, under this name
-module _ (at : ℕ) (first : List Name) (a z y : Loader) (d : Depth) (name : Name) (inv : Turning at first a z d.left) (reader : y.reader ≡ z.reader) (store : y.store ≡ z.store) (scope : y.scope ≡ z.scope)
-    (next : Next (table_of z.scope.symbols) z.levels.now.records at (Some name) y.levels.now.records) (deep : Prepared at a.store.now) where
+module _ (at : ℕ) (first : List Name) (a : Loader) (b : Filler) (z : Loader) (t : Filler) (y : Loader) (d : Depth) (name : Name) (inv : Turning at first a b z t d.left) (scope : y.scope ≡ z.scope)
+    (next : Next (table_of z.scope.symbols) z.levels.records at (Some name) y.levels.records) (deep : Prepared at b.store.now) where
   abbrev left_in : Loader → List Name
-  left_in x = names_left (table_of a.scope.symbols) (record_at x.levels.now.records at)
+  left_in x = names_left (table_of a.scope.symbols) (record_at x.levels.records at)
 
   all_left : left_in z ≡ name ∷ left_in y
   all_left = rw inv.scope at next.0
 
-  names : Named (in_object (opened (standing a.store.now))) (name ∷ left_in y)
+  names : Named (in_object (opened (standing b.store.now))) (name ∷ left_in y)
   names = rw all_left at inv.named
 
-  module _ (x : Loader) (e : Depth) where
-    module _ (answer : Result (Unit {0}) Refusal) (g : Valued (λ c. value c d.left name) y d answer x e) where
-      read : Filled z.reader z.store.now (λ c. value (within a.scope c) at name) answer x.reader x.store.now
-      read = rw (reader, store, scope, inv.scope, inv.depth) at g.read.filled
+  module _ (x : Loader) (s : Filler) (e : Depth) where
+    module _ (answer : Result (Unit {0}) Refusal) (g : Valued (λ c. value c d.left name) y t d answer x s e) where
+      read : Filled t.reader t.store.now (λ c. value (within a.scope c) at name) answer s.reader s.store.now
+      read = rw (scope, inv.scope, inv.depth) at g.read.fills.filled
 
-      pub lower : (i : ℕ) → at + 1 ≤ i → record_at x.levels.now.records i ≡ record_at a.levels.now.records i
+      pub lower : (i : ℕ) → at + 1 ≤ i → record_at x.levels.records i ≡ record_at a.levels.records i
       lower i le =
           let ne : i ≢ at = λ q. omega (arith, q) in
           let h : d.left ≤ i = omega (arith, inv.depth) in
           g.levels i h ∙ next.1 i ne ∙ inv.levels i le
 
-      pub lent_still : x.store.ghost_name ≡ a.store.ghost_name
-      lent_still = g.read.lent ∙ ap (λ s. s.ghost_name) store ∙ inv.lent
+      pub lent_still : s.store.ghost_name ≡ b.store.ghost_name
+      lent_still = g.read.fills.lent ∙ inv.lent
 
       pub scope_still : x.scope ≡ a.scope
       scope_still = g.read.scope ∙ scope ∙ inv.scope
 
-      here : record_at x.levels.now.records at ≡ record_at y.levels.now.records at
+      here : record_at x.levels.records at ≡ record_at y.levels.records at
       here = let h : d.left ≤ at = omega (arith, inv.depth) in g.levels at h
 
-    pub turn_again : Valued (λ c. value c d.left name) y d (Ok tt) x e → Turning at first a x e.left
+    pub turn_again : Valued (λ c. value c d.left name) y t d (Ok tt) x s e → Turning at first a b x s e.left
     unfolding each after
     turn_again g =
         let f = read (Ok tt) g in
@@ -88,16 +89,16 @@ module _ (at : ℕ) (first : List Name) (a z y : Loader) (d : Depth) (name : Nam
           lent = lent_still (Ok tt) g;
           scope = scope_still (Ok tt) g;
           memory = f.memory ∙ inv.memory;
-          same = opened_kept a.scope a.lawful at name z.reader x.reader z.store.now x.store.now (rw inv.same deep) (rw inv.same names.0) f ∙ inv.same;
+          same = opened_kept a.scope a.lawful at name t.reader s.reader t.store.now s.store.now (rw inv.same deep) (rw inv.same names.0) f ∙ inv.same;
           levels = lower (Ok tt) g;
           named = rw h names.1;
           came = λ c q u.
-              let v = f.came c (q ∙ sym (same_size a.reader z.reader inv.file)) (u ∙ ap in_memory (sym inv.memory)) in
+              let v = f.came c (q ∙ sym (same_size b.reader t.reader inv.file)) (u ∙ ap in_memory (sym inv.memory)) in
               let i = rw (all_left, v) at (inv.came c q u) in
               rw h i;
         }
 
-    pub turn_broke : (w : Refusal) → Valued (λ c. value c d.left name) y d (Err w) x e → Filled a.reader a.store.now (λ c. each (value (within a.scope c) at) first) (Err w) x.reader x.store.now
+    pub turn_broke : (w : Refusal) → Valued (λ c. value c d.left name) y t d (Err w) x s e → Filled b.reader b.store.now (λ c. each (value (within a.scope c) at) first) (Err w) s.reader s.store.now
     unfolding each after
     turn_broke w g =
         let f = read (Err w) g in
@@ -105,15 +106,15 @@ module _ (at : ℕ) (first : List Name) (a z y : Loader) (d : Depth) (name : Nam
           file = f.file ∙ inv.file;
           memory = f.memory ∙ inv.memory;
           came = λ c q u.
-              let v = f.came c (q ∙ sym (same_size a.reader z.reader inv.file)) (u ∙ ap in_memory (sym inv.memory)) in
+              let v = f.came c (q ∙ sym (same_size b.reader t.reader inv.file)) (u ∙ ap in_memory (sym inv.memory)) in
               sym (rw (all_left, v) at (inv.came c q u));
         }
 
 -- no value is left
-pub turn_end : (at left : ℕ) (first : List Name) (a z : Loader) → Turning at first a z left → names_left (table_of z.scope.symbols) (record_at z.levels.now.records at) ≡ [] → Filled a.reader a.store.now (λ c. each (value (within a.scope c) at) first) (Ok tt) z.reader z.store.now
+pub turn_end : (at left : ℕ) (first : List Name) (a : Loader) (b : Filler) (z : Loader) (t : Filler) → Turning at first a b z t left → names_left (table_of z.scope.symbols) (record_at z.levels.records at) ≡ [] → Filled b.reader b.store.now (λ c. each (value (within a.scope c) at) first) (Ok tt) t.reader t.store.now
 unfolding each
-turn_end at left first a z inv none =
-    let none' : names_left (table_of a.scope.symbols) (record_at z.levels.now.records at) ≡ [] = rw inv.scope at none in
+turn_end at left first a b z t inv none =
+    let none' : names_left (table_of a.scope.symbols) (record_at z.levels.records at) ≡ [] = rw inv.scope at none in
     record { file = inv.file; memory = inv.memory; came = λ c q u. sym (rw none' at (inv.came c q u)) }
 
 -- a level has the number of those inside it

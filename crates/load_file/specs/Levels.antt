@@ -1,5 +1,5 @@
 -- The records of the levels that are open, and the names of the values that are left at a level.
-use Rattle.std.specs.Prelude.{◌≡◌, ℕ, ◌≤◌, List, [], ◌∷◌, map, replicate, Some, None, Option, ◌≢◌, slice_index_or}
+use Rattle.std.specs.Prelude.{◌≡◌, ℕ, ◌+◌, ◌≤◌, List, [], ◌∷◌, map, replicate, Some, None, Option, ◌≢◌, slice_index_or}
 use Rattle.steps.specs.Steps.{Name}
 use Rattle.redbin.specs.Bytes.{number}
 use Rattle.redbin.specs.Reading.{named_by}
@@ -23,11 +23,19 @@ abbrev pub names_left : List Name → LevelRecord → List Name
 names_left table (Unnamed n) = replicate n []
 names_left table (Named is) = named_by table (map number is.now)
 
+-- one value fewer is left
+abbrev pub Fewer : LevelRecord → LevelRecord → Type 0
+Fewer (Unnamed n) (Unnamed m) = n ≡ m + 1
+Fewer (Unnamed n) (Named js) = ⊥
+Fewer (Named is) (Unnamed m) = ⊥
+Fewer (Named is) (Named js) = (i : List ℕ) × (is.now ≡ i ∷ js.now)
+
 -- the name of the next value of a level, which has one fewer then; or none is left
 abbrev pub Next : List Name → List LevelRecord → ℕ → Option Name → List LevelRecord → Type 0
 Next table before at None after = (names_left table (record_at before at) ≡ []) × (after ≡ before)
 Next table before at (Some n) after =
     (names_left table (record_at before at) ≡ n ∷ names_left table (record_at after at)) × ((i : ℕ) → (i ≢ at) → record_at after i ≡ record_at before i)
+    × Fewer (record_at before at) (record_at after at)
 
 -- the levels from this number on are as they were
 abbrev pub Untouched : ℕ → Levels → Levels → Type 0

@@ -8,7 +8,8 @@ use Rattle.steps.specs.Law.{deepest}
 use Rattle.document.specs.declared.store.Store.{Store}
 use Rattle.document.specs.Standing.{standing}
 use Rattle.redbin.specs.Reading.{Setting, Reads}
-use Rattle.load.specs.Filled.{Filled}
+use Rattle.load.specs.declared.filler.Filler.{Filler}
+use Rattle.load.specs.Filled.{Fills}
 use Rattle.load_file.specs.declared.depth.Depth.{Depth}
 use Rattle.load_file.specs.declared.loader.Loader.{Loader}
 use Rattle.load_file.specs.Levels.{Untouched}
@@ -23,14 +24,13 @@ abbrev pub Named : Bool → List Name → Type 0
 Named o [] = Unit {0}
 Named o (n ∷ ns) = (cond o (lawful_name n) (length n == 0) ≡ true) × Named o ns
 
--- a loader read as a definition says
-pub record Read (m : Setting → Reads (Unit {0})) (a : Loader) (answer : Result (Unit {0}) Refusal) (z : Loader) : Type 0 where
-  pub filled : Filled a.reader a.store.now (λ c. m (within a.scope c)) answer z.reader z.store.now
-  pub lent : z.store.ghost_name ≡ a.store.ghost_name
+-- a loader read with a filler as a definition says
+pub record Read (m : Setting → Reads (Unit {0})) (a : Loader) (b : Filler) (answer : Result (Unit {0}) Refusal) (z : Loader) (t : Filler) : Type 0 where
+  pub fills : Fills (λ c. m (within a.scope c)) b answer t
   pub scope : z.scope ≡ a.scope
 
 -- so it did; the permitted depth is again what it was, and so are the levels outside it
-pub record Valued (m : Setting → Reads (Unit {0})) (a : Loader) (d : Depth) (answer : Result (Unit {0}) Refusal) (z : Loader) (e : Depth) : Type 0 where
-  pub read : Read m a answer z
+pub record Valued (m : Setting → Reads (Unit {0})) (a : Loader) (b : Filler) (d : Depth) (answer : Result (Unit {0}) Refusal) (z : Loader) (t : Filler) (e : Depth) : Type 0 where
+  pub read : Read m a b answer z t
   pub depth : e.left ≡ d.left
-  pub levels : Untouched d.left a.levels.now z.levels.now
+  pub levels : Untouched d.left a.levels z.levels

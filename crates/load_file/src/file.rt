@@ -14,6 +14,7 @@ use crate::levels::Levels;
 use crate::loader::Loader;
 use crate::scope::Scope;
 use document::store::Store;
+use load::filler::Filler;
 use load::reader::Reader;
 use load::symbols::Symbols;
 use refusal::{Part, Reason, Refusal};
@@ -32,29 +33,29 @@ fn symbols<'f>(reader: &mut Reader<'f>) -> Result<Symbols<'f>, Refusal>
     })
 }
 
-impl Loader<'_, '_, '_, '_> {
+impl<'f> Loader<'f> {
     // The root values.
-    fn roots(&mut self, count: u32) -> Result<(), Refusal>
-        requires { Prepared 32 self.old.store.now }
-        ensures { Read (λ c. each (value c 32) (replicate count [])) self.old result self.new }
+    fn roots(&mut self, filler: &mut Filler<'_, 'f, '_>, count: u32) -> Result<(), Refusal>
+        requires { Prepared 32 filler.old.store.now }
+        ensures { Read (λ c. each (value c 32) (replicate count [])) self.old filler.old result self.new filler.new }
     {
         let mut depth = Depth { left: DEEPEST };
         for _ in 0..count {
-            self.value(&mut depth, &[])?;
+            self.value(filler, &mut depth, &[])?;
         }
         Ok(())
     }
 
     // The payload: the rest of the file, with so many root values and nothing behind them.
-    fn records(&mut self, count: u32) -> Result<(), Refusal>
-        requires { Prepared 32 self.old.store.now }
-        ensures read { Read (λ c. records c count) self.old result self.new }
-        ensures lent { self.new.store.ghost_name ≡ self.old.store.ghost_name }
+    fn records(&mut self, filler: &mut Filler<'_, 'f, '_>, count: u32) -> Result<(), Refusal>
+        requires { Prepared 32 filler.old.store.now }
+        ensures read { Read (λ c. records c count) self.old filler.old result self.new filler.new }
+        ensures lent { filler.new.store.ghost_name ≡ filler.old.store.ghost_name }
     {
-        let reader = &mut self.reader;
+        let reader = &mut filler.reader;
         reader.check_payload(self.scope.payload)?;
-        self.roots(count)?;
-        let reader = &mut self.reader;
+        self.roots(filler, count)?;
+        let reader = &mut filler.reader;
         reader.check_end()
     }
 }
@@ -70,14 +71,12 @@ fn read_payload<'f>(
     requires prepared { Prepared 32 store.old }
     ensures { ReadPayload reader.entry scope.entry count store.old result store.new }
 {
-    let mut levels = Levels::new();
+    let mut filler = Filler { reader, store };
     let mut loader = Loader {
-        reader,
-        store,
         scope,
-        levels: &mut levels,
+        levels: Levels::new(),
     };
-    loader.records(count)
+    loader.records(&mut filler, count)
 }
 
 // A whole file into a store in which no step stands.

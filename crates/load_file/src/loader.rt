@@ -3,16 +3,12 @@ ghost use Rattle.load_file.specs.Lawful.{AllLawful, all_lawful_prop};
 
 use crate::levels::Levels;
 use crate::scope::Scope;
-use document::store::Store;
-use load::reader::Reader;
 
-// What reads the records of a file into a store. Every symbol of the file has a lawful name. The levels are borrowed:
-// where a struct holds references in an array, nothing tells what a borrow beside them leaves.
+// What reads the records of a file: their scope, and the levels that are open. Every symbol of the file has a lawful name.
+// The filler is given to each call: where a struct lies in another, nothing tells what a `&mut` in it leaves.
 #[derive(Drop)]
-pub struct Loader<'l, 'm, 'f, 's> {
-    pub reader: Reader<'f>,
-    pub store: &'l mut Store<'s>,
+pub struct Loader<'f> {
     pub scope: Scope<'f>,
-    pub levels: &'m mut Levels<'f>,
+    pub levels: Levels<'f>,
     pub ghost lawful: { AllLawful (table_of scope.symbols) } by { all_lawful_prop (table_of scope.symbols) },
 }

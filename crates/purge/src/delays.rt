@@ -3,10 +3,11 @@ ghost use Rattle.listing.specs.Pairs.{pair_of, good};
 ghost use Rattle.purge.specs.Entries.{Listable};
 
 use listing::pairs::{Entry, is_good};
+use refusal::Reason;
 use std::alloc::{AllocError, AllocFailed, Global};
 use std::fmt;
 
-// How many lines are read at most.
+// How many lines are read at most: this program's own limit, beside that of a draft.
 pub const MOST: usize = 16_384;
 
 // Why no entries are read: what is wrong with the first malformed line, the lines counted from 1, or no memory.
@@ -31,7 +32,8 @@ impl fmt::Display for Fault {
             Fault::NoPair { line } => write!(f, "line {line}: not a name, a space and a delay"),
             Fault::BadPair { line } => write!(
                 f,
-                "line {line}: refused 21: a name is 1 to 63 letters, digits or underscores and begins with no digit, a delay is -1 to 3600000"
+                "line {line}: refused {}: a name is 1 to 63 letters, digits or underscores and begins with no digit, a delay is -1 to 3600000",
+                Reason::NotTuning.number()
             ),
             Fault::Repeated { line, first } => {
                 write!(f, "line {line}: the name stands in line {first} already")

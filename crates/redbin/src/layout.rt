@@ -29,7 +29,7 @@ pub const LARGEST_FILE: usize = 1 << 20;
 
 // ---- limits of fields
 
-// Counts, sizes, lengths, heads, classes, arities and offsets stop here.
+// Counts, sizes, lengths, heads, classes, arities and offsets stop here. Limits are `u64`, since `WORD_END` needs it.
 pub const FIELD_END: u64 = limits::FIELD_END as u64;
 
 // No four bytes reach this.

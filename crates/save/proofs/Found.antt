@@ -1,10 +1,11 @@
 -- What `find` leaves of an iterator whose state shows what is left.
-use Rattle.std.proofs.Common.{◌≡◌, ℕ, zero, suc, ◌+◌, ◌-◌, ◌<◌, Bool, true, false, cond, List, [], ◌∷◌, length, filter, Some, None, Option, MatchOption, Bor, take, refl, ap, ◌∙◌, sym, subst, arith}
+use Rattle.std.proofs.Common.{◌≡◌, ℕ, zero, suc, ◌+◌, ◌-◌, Bool, true, false, cond, List, [], ◌∷◌, length, filter, Some, None, Option, MatchOption, Bor, take, refl, ap, ◌∙◌, sym, subst, arith}
 use Rattle.std.specs.Fn.{CalledAt}
 use Rattle.std.specs.List.{FoldsTo, range_with_len, enumerate_from}
 use Rattle.std.specs.declared.iter.Enumerate.{Enumerate}
-use Rattle.std.specs.Iterator.Adapters.{enumerate_source, enumerate_count, enumerate_steps}
-use Rattle.std.specs.Iterator.{Yields, YieldsThen, YieldsFirstBy, MakesProgress, item_count}
+use Rattle.std.specs.declared.iter.Take.{Take}
+use Rattle.std.specs.Iterator.Adapters.{enumerate_source, enumerate_count, enumerate_steps, take_source, take_count, take_steps}
+use Rattle.std.specs.Iterator.{Yields, YieldsThen, YieldsFirst, YieldsFirstBy, MakesProgress, item_count}
 use Rattle.std.specs.declared.ops.Range.{Range}
 use Rattle.std.proofs.iter.Yields.{nat_range_steps}
 use denote.Param.Members.{Mut}
@@ -50,13 +51,13 @@ range_some s x t h =
 
 -- ---- the first so many
 
-pub taken : {A : Type 0} (xs ys : List A) (k : ℕ) (r : Option A) → 0 < k → MatchOption r ((xs ≡ []) × (ys ≡ [])) (λ x. xs ≡ x ∷ ys) → MatchOption r ((take k xs ≡ []) × (take (k - 1) ys ≡ [])) (λ x. take k xs ≡ x ∷ take (k - 1) ys)
-taken xs ys zero r l h = absurd (omega arith)
-taken xs ys (suc k) None l h = (ap (take (suc k)) h.0, ap (take (suc k - 1)) h.1 ∙ take_nil (suc k - 1)) where
-  take_nil : {A : Type 0} (n : ℕ) → ◌≡◌ {A = List A} (take n []) []
-  take_nil zero = refl
-  take_nil (suc n) = refl
-taken xs ys (suc k) (Some x) l h = let e : k ≡ suc k - 1 = omega arith in ap (take (suc k)) h ∙ ap (λ n. x ∷ take n ys) e
+pub taken : {S A : Type 0} (rest : S → List A) (s t : Take S) (r : Option A) → take_steps (YieldsFirst rest) s r t
+    → MatchOption r (take (take_count s) (rest (take_source s)) ≡ []) (λ x. take (take_count s) (rest (take_source s)) ≡ x ∷ take (take_count t) (rest (take_source t)))
+taken rest s t None h = none (take_count s) refl where
+  none : (n : ℕ) → take_count s ≡ n → take n (rest (take_source s)) ≡ []
+  none zero e = refl
+  none (suc n) e = ap (take (suc n)) (h (omega (arith, e))).0
+taken rest s t (Some x) h = let e : take_count s ≡ suc (take_count t) = omega (arith, h.1) in ap (λ n. take n (rest (take_source s))) e ∙ ap (take (suc (take_count t))) h.0
 
 -- ---- an iterator whose state shows what is left ends
 

@@ -73,11 +73,12 @@ order_all all = order_until all (length all) (omega arith) ∙ ap (written_names
 
 -- ---- on to the next value
 
-pub value_next : (all : List Entry) → Sound all → (a b : List ℕ) (s t : Range ℕ) (v k : ℕ) → a ≡ [] → nat_range_steps s (Some v) t → s.end ≤ length all → k ≡ length (names_at all v)
-    → b ≡ take k (inner_of all (At v) (v + 1) (length all - (v + 1))) → names_of all b ++ flat_map (names_at all) (numbers t) ≡ names_of all a ++ flat_map (names_at all) (numbers s)
-value_next all sound a b s t v k e h l c d =
+-- where no name of an object is left
+pub value_next : (all : List Entry) → Sound all → (a b : List ℕ) (s t : Range ℕ) (v : ℕ) → a ≡ [] → nat_range_steps s (Some v) t → s.end ≤ length all
+    → b ≡ take (length (names_at all v)) (inner_of all (At v) (v + 1) (length all - (v + 1))) → names_of all b ++ flat_map (names_at all) (numbers t) ≡ names_of all a ++ flat_map (names_at all) (numbers s)
+value_next all sound a b s t v e h l d =
     let low : v < length all = omega (arith, h.1.0, h.1.1, l) in
-    let n : names_of all b ≡ names_at all v = ap (names_of all) d ∙ ap (λ j. names_of all (take j (inner_of all (At v) (v + 1) (length all - (v + 1))))) c ∙ object_names all sound v low in
+    let n : names_of all b ≡ names_at all v = ap (names_of all) d ∙ object_names all sound v low in
     ap (λ ns. ns ++ flat_map (names_at all) (numbers t)) n ∙ sym (ap (λ vs. names_of all vs ++ flat_map (names_at all) (numbers s)) e ∙ ap (flat_map (names_at all)) (range_some s v t h))
 
 -- ---- few

@@ -6,9 +6,9 @@ use Rattle.steps.specs.Outline.{values}
 use Rattle.document.specs.Standing.{standing}
 use Rattle.save.specs.declared.names.Names.{Names}
 use Rattle.save.specs.Values.{names_of}
-use Rattle.save.specs.Inners.{inner_left}
+use Rattle.save.specs.Inners.{object_left}
 use Rattle.save.specs.Names.{names_at}
 
 -- the names that are still to come: those of an object, and those of the values behind it
 abbrev pub names_left : Names → List Name
-names_left s = names_of (values (standing s.store.now)) (inner_left s.inner) ++ flat_map (names_at (values (standing s.store.now))) (range_with_len s.later.start (s.later.end - s.later.start))
+names_left s = names_of (values (standing s.store.now)) (object_left s.inner) ++ flat_map (names_at (values (standing s.store.now))) (range_with_len s.later.start (s.later.end - s.later.start))

@@ -41,7 +41,7 @@ pub fn words<S: Sink>(sink: &mut S, numbers: &[u32])
     fields(sink, Width::Four, numbers);
 }
 
-// Writes a length in a field of four bytes.
+// Writes a length in a field of four bytes. Not by `words`: that a count fits 32 bits is not known here.
 pub fn length<S: Sink>(sink: &mut S, count: usize)
     ensures { Gained S.Sink.output sink.old (words (count ∷ [])) sink.new }
 {

@@ -39,13 +39,20 @@ impl Sizes {
         }
     }
 
+    // Whether such a file has a symbol table: without names there is none.
+    fn has_table(self) -> bool
+        ensures { result ≡ nat_lt 0 self.count }
+    {
+        self.count > 0
+    }
+
     // How many bytes a file with such parts has.
     pub fn file_size(self) -> usize
         requires strings { self.strings ≤ full }
         requires payload { self.payload ≤ full }
         ensures { result ≡ file_size self.count self.strings self.payload }
     {
-        let table = if self.count > 0 {
+        let table = if self.has_table() {
             8 + 4 * self.count as usize + self.strings
         } else {
             0
@@ -57,7 +64,7 @@ impl Sizes {
     pub fn flags(self) -> u8
         ensures { result ≡ (if nat_lt 0 self.count then 4 else 0) }
     {
-        if self.count > 0 { TABLE_FLAG } else { 0 }
+        if self.has_table() { TABLE_FLAG } else { 0 }
     }
 }
 
@@ -70,15 +77,15 @@ pub fn heading<S: Sink>(sink: &mut S, flags: u8, roots: u32, payload: u32)
     words(sink, &[roots, payload]);
 }
 
-// Writes the symbol table of so many names, whose strings have `size` bytes. Without names there is none.
-pub fn symbol_table<S: Sink>(store: &Store<'_>, sink: &mut S, count: u32, size: u32)
-    requires counted { count ≡ length (symbols (values (standing store.now))) }
-    requires sized { size ≡ length (strings (symbols (values (standing store.now)))) }
-    requires low { size ≤ full }
+// Writes the symbol table, whose sizes are exact. Without names there is none.
+pub fn symbol_table<S: Sink>(store: &Store<'_>, sink: &mut S, sizes: Sizes)
+    requires counted { sizes.count ≡ length (symbols (values (standing store.now))) }
+    requires sized { sizes.strings ≡ length (strings (symbols (values (standing store.now)))) }
+    requires low { sizes.strings ≤ full }
     ensures { Gained S.Sink.output sink.old (table (symbols (values (standing store.now)))) sink.new }
 {
-    if count > 0 {
-        words(sink, &[count, size]);
+    if sizes.has_table() {
+        words(sink, &[sizes.count, sizes.strings as u32]);
         offsets(store, sink);
         let _ = strings(store, sink);
     }

@@ -1,5 +1,5 @@
 // The inner values of an opened value.
-ghost use Rattle.std.specs.Prelude.{◌≡◌, ◌+◌, ◌-◌, ◌<◌, [], length, take};
+ghost use Rattle.std.specs.Prelude.{◌≡◌, ◌+◌, ◌-◌, ◌<◌, length};
 ghost use Rattle.std.specs.Iterator.{YieldsFirst, item_count};
 ghost use Rattle.steps.specs.declared.parts.Node.TheVariants.{At as at};
 ghost use Rattle.steps.specs.Outline.{values};
@@ -11,39 +11,25 @@ use document::store::Store;
 use std::ops::Range;
 use steps::parts::Node;
 
-// So many of the values of these numbers that stand directly in this list or object.
+// The values of these numbers that stand directly in this list or object.
 // A type of its own, since the closure of a filter in a field has no type that can be named.
 #[derive(Drop)]
 pub struct Inner<'s, 'a> {
     store: &'s Store<'a>,
     holder: Node,
     numbers: Range<u32>,
-    left: u32,
 }
 
 impl<'s, 'a> Inner<'s, 'a> {
-    // The first `count` inner values.
-    pub fn of(store: &'s Store<'a>, number: u32, count: u32) -> Inner<'s, 'a>
+    // All inner values. A user takes as many as there are, so that nobody looks on behind the last.
+    pub fn of(store: &'s Store<'a>, number: u32) -> Inner<'s, 'a>
         requires { number < length (values (standing store.now)) }
-        ensures { inner_left result ≡ take count (inner_of (values (standing store.now)) (at number) (number + 1) (length (values (standing store.now)) - (number + 1))) }
+        ensures { inner_left result ≡ inner_of (values (standing store.now)) (at number) (number + 1) (length (values (standing store.now)) - (number + 1)) }
     {
         Inner {
             store,
             holder: Node::At(number),
             numbers: number + 1..store.count(),
-            left: count,
-        }
-    }
-
-    // No values.
-    pub fn none(store: &'s Store<'a>) -> Inner<'s, 'a>
-        ensures { inner_left result ≡ [] }
-    {
-        Inner {
-            store,
-            holder: Node::Root,
-            numbers: 0..0,
-            left: 0,
         }
     }
 }
@@ -56,10 +42,6 @@ impl Iterator for Inner<'_, '_> {
     ghost next_gives = { YieldsFirst inner_left };
 
     fn next(&mut self) -> Option<u32> {
-        if self.left == 0 {
-            return None;
-        }
-        self.left -= 1;
         let store = self.store;
         let holder = self.holder;
         self.numbers.find(|number| store.is_held(*number, holder))

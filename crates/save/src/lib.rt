@@ -42,7 +42,7 @@ fn write_to(store: &Store<'_>, writer: &mut Writer<'_>, sizes: Sizes)
 {
     let roots = inner_count(store, store.count(), Node::Root);
     heading(writer, sizes.flags(), roots, sizes.payload as u32);
-    symbol_table(store, writer, sizes.count, sizes.strings as u32);
+    symbol_table(store, writer, sizes);
     let end = writer.size();
     let start = end - sizes.strings;
     payload(store, writer, Strings { start, end });

@@ -8,13 +8,15 @@ ghost use Rattle.save.specs.Names.{names_at, in_order};
 use crate::inner::Inner;
 use crate::values::name_of;
 use document::store::Store;
+use std::iter::Take;
 use std::ops::Range;
 
 // The names of the inner values of an object, and those of later objects.
+// A type of its own, since a function cannot answer `impl Iterator` here.
 #[derive(Drop)]
 pub struct Names<'s, 'a> {
     store: &'s Store<'a>,
-    inner: Inner<'s, 'a>,
+    inner: Option<Take<Inner<'s, 'a>>>,
     later: Range<u32>,
     ghost within: { later.end ≤ length (values (standing store.now)) },
 }
@@ -38,7 +40,7 @@ impl<'s, 'a> Names<'s, 'a> {
     {
         Names {
             store,
-            inner: Inner::none(store),
+            inner: None,
             later: 0..store.count(),
         }
     }
@@ -56,11 +58,19 @@ impl<'s> Iterator for Names<'s, '_> {
 
     fn next(&mut self) -> Option<&'s [u8]> {
         loop {
-            if let Some(value) = self.inner.next() {
-                return Some(name_of(self.store, value));
+            match &mut self.inner {
+                Some(inner) => {
+                    if let Some(value) = inner.next() {
+                        return Some(name_of(self.store, value));
+                    }
+                    self.inner = None;
+                }
+                None => {
+                    let object = self.later.next()?;
+                    let count = name_count(self.store, object) as usize;
+                    self.inner = Some(Inner::of(self.store, object).take(count));
+                }
             }
-            let object = self.later.next()?;
-            self.inner = Inner::of(self.store, object, name_count(self.store, object));
         }
     }
 }

@@ -64,7 +64,7 @@ impl Payload<'_, '_> {
         requires ready { TableReady self.now (S.Sink.output sink.old) }
         ensures { Gained S.Sink.output sink.old (words (map (index_of (symbols (entries self.now))) (inner_names (entries self.now) (at number)))) sink.new }
     {
-        for value in Inner::of(self.store, number, count) {
+        for value in Inner::of(self.store, number).take(count as usize) {
             self.symbol(sink, name_of(self.store, value));
         }
     }

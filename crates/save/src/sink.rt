@@ -25,7 +25,7 @@ pub trait Sink {
         ensures { Indexed (output self.now) table.start table.end name.now result };
 }
 
-// Where the strings of the symbol table stand among the bytes.
+// Where the strings of the symbol table stand among the bytes. Not a `Range`, which is not `Copy`.
 #[derive(Clone, Copy)]
 pub struct Strings {
     pub start: usize,

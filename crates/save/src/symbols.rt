@@ -12,6 +12,7 @@ use document::store::Store;
 use std::iter::Enumerate;
 
 // The names that are still to come, each with how many stand before it.
+// A type of its own, since a function cannot answer `impl Iterator` here.
 #[derive(Drop)]
 pub struct Symbols<'s, 'a> {
     store: &'s Store<'a>,

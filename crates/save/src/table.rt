@@ -25,7 +25,8 @@ pub fn strings<S: Sink>(store: &Store<'_>, sink: &mut S) -> u32
     ensures count { result ≡ length (symbols (values (standing store.now))) }
     ensures bytes { Gained S.Sink.output sink.old (strings (symbols (values (standing store.now)))) sink.new }
 {
-    // Counted beside: `count()` would find all symbols a second time, which takes longest.
+    // Counted beside: `count()` would find all symbols a second time, which takes longest, and a chain that also writes would have
+    // to write in its closure.
     let mut count = 0;
     for name in Symbols::of(store) {
         store_name(sink, name);

@@ -4,8 +4,8 @@ use denote.Bor.{Bor}
 use Rattle.steps.specs.declared.parts.Label.{Label}
 use Rattle.steps.specs.declared.parts.Content.{Content as Value}
 use Rattle.steps.specs.declared.parts.Content.TheVariants.{Nothing, Logic, Char, Integer, Float, Text}
-use Rattle.steps.specs.declared.parts.Item.{Item}
-use Rattle.steps.specs.declared.parts.Item.TheVariants.{Put, Open, Share}
+use Rattle.steps.specs.declared.parts.Begun.{Begun as Item}
+use Rattle.steps.specs.declared.parts.Begun.TheVariants.{Put, Open, Share}
 use Rattle.steps.specs.declared.parts.Entry.{Entry as Given}
 use Rattle.steps.specs.Outline.{Entry}
 use Rattle.steps.specs.Steps.{Tag, Content, none, logic, char, integer, float, text, Begun, put, open', share}
@@ -21,7 +21,7 @@ content (Integer z) = integer z
 content (Float n) = float n
 content (Text k h ps) = text k h ps.now
 
-abbrev pub begun : Item → Begun
+abbrev pub begun : Item (Bor (List ℕ)) → Begun
 begun (Put v) = put (content v)
 begun (Open h) = open' h
 begun (Share s t) = share s t

@@ -204,7 +204,7 @@ impl<'a> Pile<'a, Cell> {
         change(self.memory, Node::At(number), |cell| cell.unshut());
     }
 
-    // What holds `at`.
+    // What holds `at`. Save has this over a store's values; here cells stand alone, in the middle of a change.
     fn holder_of(&self, at: Node) -> Node
         ensures { result ≡ up (holders (items self.now)) at }
     {

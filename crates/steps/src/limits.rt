@@ -6,6 +6,9 @@ pub const CODEPOINT_END: u32 = 0x11_0000;
 // Heads, classes and arities stop here.
 pub const FIELD_END: u32 = 0x8000_0000;
 
+// The most bytes of a name.
+pub const LONGEST_NAME: usize = 255;
+
 // The depth of the deepest value.
 pub const DEEPEST: u32 = 32;
 

@@ -2,6 +2,8 @@
 ghost use Rattle.std.specs.Prelude.{◌≡◌, ◌&&◌, length};
 ghost use Rattle.steps.specs.Utf8.{utf8, one, two, three, four, lawful_name, no_zero};
 
+use crate::limits::LONGEST_NAME;
+
 fn is_one(a: u8) -> bool
     ensures { result ≡ one a }
 {
@@ -37,7 +39,7 @@ fn is_four(a: u8, b: u8, c: u8, d: u8) -> bool
     }
 }
 
-// Whether the bytes are well-formed UTF-8.
+// Whether the bytes are well-formed UTF-8. The slice is taken apart by patterns, as this project does; no index is counted.
 fn is_text(bytes: &[u8]) -> bool
     ensures { result ≡ utf8 bytes.now }
 {
@@ -65,5 +67,5 @@ fn has_no_zero(bytes: &[u8]) -> bool
 pub fn is_name(bytes: &[u8]) -> bool
     ensures { result ≡ lawful_name bytes.now }
 {
-    !bytes.is_empty() && bytes.len() <= 255 && has_no_zero(bytes) && is_text(bytes)
+    !bytes.is_empty() && bytes.len() <= LONGEST_NAME && has_no_zero(bytes) && is_text(bytes)
 }

@@ -81,13 +81,16 @@ pub enum Share {
     Object { owner: bool },
 }
 
-// A value that a step begins.
-#[derive(Clone, Copy, PartialEq, Eq, Debug)]
-pub enum Item<'v> {
-    Put(Value<'v>),
+// A value that a step begins, by how its codepoints are given.
+#[derive(Clone, Copy, PartialEq, Eq, Debug, Drop)]
+pub enum Begun<C> {
+    Put(Content<C>),
     Open(Holder),
     Share(Share, Node),
 }
+
+// As callers give it.
+pub type Item<'v> = Begun<&'v [u32]>;
 
 // A value that was begun, and what holds it.
 #[derive(Clone, Copy, PartialEq, Eq, Debug)]
@@ -112,7 +115,8 @@ pub enum Sort {
     Share { share: Share, target: Node },
 }
 
-// A value, what holds it, and how many closes come right after it, before the next value begins.
+// A value, what holds it, and how many closes come right after it, before the next value begins. Values name one another by
+// number, since a draft has no heap.
 #[derive(Clone, Copy, PartialEq, Eq, Debug)]
 pub struct Cell {
     pub new_line: bool,

@@ -1,5 +1,7 @@
 ghost use Rattle.std.specs.Prelude.{◌≡◌, ℕ, ◌+◌, ◌^◌, ◌<◌, ◌≤◌, min, [], ◌∷◌, ◌++◌, length, take, drop, nat_le, slice_index_or, slice_set};
 
+use crate::parts::Span;
+
 // The first `used` elements of a memory that its owner lends. It never uses more than `bound`. No `Vec`: a draft has no heap.
 #[derive(Drop)]
 pub struct Pile<'a, T> {
@@ -115,13 +117,13 @@ impl<'a, T: Copy> Pile<'a, T> {
         memory[at as usize]
     }
 
-    // The `len` elements from `start` on.
-    pub fn part(&self, start: u32, len: u32) -> &[T]
-        requires { start + len ≤ length (items self.now) }
-        ensures { result.now ≡ take len (drop start (items self.now)) }
+    // A part of those in use.
+    pub fn part(&self, span: Span) -> &[T]
+        requires { span.start + span.len ≤ length (items self.now) }
+        ensures { result.now ≡ take span.len (drop span.start (items self.now)) }
     {
-        let begin = start as usize;
-        let end = begin + len as usize;
+        let begin = span.start as usize;
+        let end = begin + span.len as usize;
         &self.memory[begin..end]
     }
 }

@@ -64,9 +64,8 @@ impl<'a> Store<'a> {
         ensures { option_map entry result ≡ entry_at (values (standing self.now)) number }
     {
         let cell = self.cell(number)?;
-        let span = cell.sort.span();
-        let name = self.names.part(cell.name.start, cell.name.len);
-        let codepoints = self.codepoints.part(span.start, span.len);
+        let name = self.names.part(cell.name);
+        let codepoints = self.codepoints.part(cell.sort.span());
         Some(Entry {
             label: Label {
                 new_line: cell.new_line,

@@ -47,7 +47,7 @@ impl<'f> Reader<'f> {
         Ok(bytes)
     }
 
-    // N bytes, as they are.
+    // N bytes, as they are. Not by `bytes`, which would have to be shown once more to have answered so many.
     #[tactic(auto, unfolding(redbin::specs::Reading::after, redbin::specs::Reading::enough, redbin::specs::Reading::skip))]
     fn array<const N: usize>(&mut self, part: Part) -> Result<&'f [u8; N], Refusal>
         ensures did { Did self.old (λ size. piece size part N) (as_read (λ x. x.now) result) self.new }

@@ -11,9 +11,6 @@ use Rattle.save.proofs.write_to.Goals as goal
 pub overflow_cast-sizes : goal.overflow_cast-sizes
 overflow_cast-sizes c = omega (arith, (text_records_low (standing c.args.store.now) _ _ _ c.requires.exact c.requires.low).1)
 
-pub overflow_cast-sizes-2 : goal.overflow_cast-sizes-2
-overflow_cast-sizes-2 c = omega (arith, (text_records_low (standing c.args.store.now) _ _ _ c.requires.exact c.requires.low).0)
-
 pub symbol_table-requires : goal.symbol_table-requires
 symbol_table-requires c =
     record {

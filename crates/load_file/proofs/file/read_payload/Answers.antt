@@ -17,7 +17,7 @@ pub returns : goal.returns
 returns c =
     let r = c.args.reader in
     let b = c.args.store.now in
-    let g = c.records.ensures.read.filled in
-    let p : ReadPayload r c.args.scope c.args.count b c.records.result c.records.new.self.store.now =
-    record { memory = g.memory; comes = λ s e u. comes_of (records (within c.args.scope s) c.args.count) (rest_of r) (rest_of c.records.new.self.reader) (standing b) (standing c.records.new.self.store.now) c.records.result (g.came s e u) } in
+    let g = c.records.ensures.read.fills.filled in
+    let p : ReadPayload r c.args.scope c.args.count b c.records.result c.records.new.filler.store.now =
+    record { memory = g.memory; comes = λ s e u. comes_of (records (within c.args.scope s) c.args.count) (rest_of r) (rest_of c.records.new.filler.reader) (standing b) (standing c.records.new.filler.store.now) c.records.result (g.came s e u) } in
     search (rules, p)

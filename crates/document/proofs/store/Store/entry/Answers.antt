@@ -20,7 +20,7 @@ pub part-codepoints-requires : goal.part-codepoints-requires
 part-codepoints-requires c =
     let s = c.args.self.now in
     let e = c.in_ok-cell.ensures in
-    subst (λ x. x.start + x.len ≤ length (items s.codepoints)) (sym c.span-span.ensures)
+    subst (λ x. x.start + x.len ≤ length (items s.codepoints)) (sym c.span.ensures)
     (span_within s c.args.number c.in_ok-cell.cell e.0 e.1)
 
 pub returns : goal.returns
@@ -28,4 +28,4 @@ returns c =
     let s = c.args.self.now in
     let e = c.in_ok-cell.ensures in
     sym (read_entry s c.args.number c.in_ok-cell.cell (begun c.item.result) c.part-name.result.now c.part-codepoints.result.now e.0 e.1
-    c.part-name.ensures (c.part-codepoints.ensures ∙ ap (λ x. part x (items s.codepoints)) c.span-span.ensures) c.item.ensures)
+    c.part-name.ensures (c.part-codepoints.ensures ∙ ap (λ x. part x (items s.codepoints)) c.span.ensures) c.item.ensures)

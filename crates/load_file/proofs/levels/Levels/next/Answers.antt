@@ -33,7 +33,7 @@ returns-in_ok-left-in-Unnamed c =
     let inside : c.args.at < length xs = omega (arith, c.args.self.now.many) in
     let left = c.in_ok-left-in-Unnamed.left in
     let same = get_or-set_same xs c.args.at (Unnamed left) blank inside in
-    (rw same (unnamed_next (table_of c.args.symbols) _ c.in-Unnamed.left left c.in-Unnamed.is (omega (arith, c.in_ok-left-in-Unnamed.ensures))), λ i ne. get_or-set_other xs c.args.at i _ blank ne)
+    (rw same (unnamed_next (table_of c.args.symbols) _ c.in-Unnamed.left left c.in-Unnamed.is (omega (arith, c.in_ok-left-in-Unnamed.ensures))), (λ i ne. get_or-set_other xs c.args.at i _ blank ne), rw (same, c.in-Unnamed.is) (omega (arith, c.in_ok-left-in-Unnamed.ensures)))
 
 pub returns-in_err-index-in-Named : goal.returns-in_err-index-in-Named
 returns-in_err-index-in-Named c =
@@ -46,4 +46,4 @@ returns-in_ok-index-in-Named c =
     let rest = c.in_ok-index-in-Named.rest in
     let same = get_or-set_same xs c.args.at (Named rest) blank inside in
     let name = c.name.ensures ∙ ap (λ (i : ℕ). get_or (table_of c.args.symbols) i []) c.word.ensures in
-    (rw same (named_next (table_of c.args.symbols) _ c.in-Named.indexes rest _ _ c.in-Named.is c.in_ok-index-in-Named.ensures.cases.0 name), λ i ne. get_or-set_other xs c.args.at i _ blank ne)
+    (rw same (named_next (table_of c.args.symbols) _ c.in-Named.indexes rest _ _ c.in-Named.is c.in_ok-index-in-Named.ensures.cases.0 name), (λ i ne. get_or-set_other xs c.args.at i _ blank ne), rw (same, c.in-Named.is) (_, c.in_ok-index-in-Named.ensures.cases.0))

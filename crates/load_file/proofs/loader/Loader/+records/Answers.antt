@@ -13,7 +13,7 @@ use Rattle.load_file.specs.declared.levels.LevelRecord.{LevelRecord}
 use Rattle.load_file.specs.Levels.{record_at, names_left}
 use Rattle.load_file.specs.Scopes.{within, start_of}
 use Rattle.load_file.specs.Values.{Prepared, Named, Valued}
-use Rattle.load_file.proofs.Contents.{added_fills, leaf_filled, leaf_paid, heading_stop, heading_deep, heading_then}
+use Rattle.load_file.proofs.Contents.{added_fills, leaf_fills, leaf_paid, heading_stop, heading_deep, heading_then}
 use Rattle.load_file.proofs.Holding.{opened_stands, held_refused, held_broke, held_got, list_got, fields_got, context_got}
 use Rattle.load_file.proofs.Objects.{list_stop, list_then, object_stop, context_stop, context_then}
 use Rattle.load_file.proofs.Turns.{lower, lent_still, scope_still, turn_again, turn_broke, turn_end, filled_at}
@@ -24,10 +24,10 @@ use Rattle.load_file.proofs.loader.Loader.+records.Goals as goal
 pub content-returns-in-Nothing : goal.content-returns-in-Nothing
 content-returns-in-Nothing t c =
     let a = c.args.self.now in
+    let b = c.args.filler.now in
     record {
       read = record {
-        filled = leaf_filled a.scope (c.args.depth.now.left - 1) c.args.start.place (tag c.args.start.label) c.args.form is_none a.reader _ a.store.now _ _ c.in-Nothing.is (λ one. added_fills a.reader a.store.now _ _ _ (c.nothing.ensures one));
-        lent = refl;
+        fills = leaf_fills a.scope (c.args.depth.now.left - 1) c.args.start.place (tag c.args.start.label) c.args.form is_none b _ _ c.in-Nothing.is (λ one. record { filled = added_fills b.reader b.store.now _ _ _ (c.nothing.ensures one); lent = refl });
         scope = refl;
       };
       depth = refl;
@@ -37,10 +37,10 @@ content-returns-in-Nothing t c =
 pub content-returns-in-Logic : goal.content-returns-in-Logic
 content-returns-in-Logic t c =
     let a = c.args.self.now in
+    let b = c.args.filler.now in
     record {
       read = record {
-        filled = leaf_filled a.scope (c.args.depth.now.left - 1) c.args.start.place (tag c.args.start.label) c.args.form is_logic a.reader _ a.store.now _ _ c.in-Logic.is c.logic.ensures;
-        lent = refl;
+        fills = leaf_fills a.scope (c.args.depth.now.left - 1) c.args.start.place (tag c.args.start.label) c.args.form is_logic b _ _ c.in-Logic.is c.logic.ensures;
         scope = refl;
       };
       depth = refl;
@@ -50,10 +50,10 @@ content-returns-in-Logic t c =
 pub content-returns-in-Char : goal.content-returns-in-Char
 content-returns-in-Char t c =
     let a = c.args.self.now in
+    let b = c.args.filler.now in
     record {
       read = record {
-        filled = leaf_filled a.scope (c.args.depth.now.left - 1) c.args.start.place (tag c.args.start.label) c.args.form is_char a.reader _ a.store.now _ _ c.in-Char.is c.char.ensures;
-        lent = refl;
+        fills = leaf_fills a.scope (c.args.depth.now.left - 1) c.args.start.place (tag c.args.start.label) c.args.form is_char b _ _ c.in-Char.is c.char.ensures;
         scope = refl;
       };
       depth = refl;
@@ -63,10 +63,10 @@ content-returns-in-Char t c =
 pub content-returns-in-Integer : goal.content-returns-in-Integer
 content-returns-in-Integer t c =
     let a = c.args.self.now in
+    let b = c.args.filler.now in
     record {
       read = record {
-        filled = leaf_filled a.scope (c.args.depth.now.left - 1) c.args.start.place (tag c.args.start.label) c.args.form is_integer a.reader _ a.store.now _ _ c.in-Integer.is c.integer.ensures;
-        lent = refl;
+        fills = leaf_fills a.scope (c.args.depth.now.left - 1) c.args.start.place (tag c.args.start.label) c.args.form is_integer b _ _ c.in-Integer.is c.integer.ensures;
         scope = refl;
       };
       depth = refl;
@@ -76,10 +76,10 @@ content-returns-in-Integer t c =
 pub content-returns-in-Float : goal.content-returns-in-Float
 content-returns-in-Float t c =
     let a = c.args.self.now in
+    let b = c.args.filler.now in
     record {
       read = record {
-        filled = leaf_paid a.scope (c.args.depth.now.left - 1) c.args.start.place (tag c.args.start.label) c.args.form is_float a.reader _ a.store.now _ _ c.in-Float.is c.float.ensures;
-        lent = refl;
+        fills = leaf_paid a.scope (c.args.depth.now.left - 1) c.args.start.place (tag c.args.start.label) c.args.form is_float b _ _ c.in-Float.is c.float.ensures;
         scope = refl;
       };
       depth = refl;
@@ -90,10 +90,10 @@ pub content-returns-in-Text : goal.content-returns-in-Text
 unfolding content
 content-returns-in-Text t c =
     let a = c.args.self.now in
+    let b = c.args.filler.now in
     record {
       read = record {
-        filled = leaf_filled a.scope (c.args.depth.now.left - 1) c.args.start.place (tag c.args.start.label) c.args.form (is_text c.in-Text.kind c.in-Text.unit) a.reader _ a.store.now _ _ c.in-Text.is (λ one. c.add_text.ensures);
-        lent = refl;
+        fills = leaf_fills a.scope (c.args.depth.now.left - 1) c.args.start.place (tag c.args.start.label) c.args.form (is_text c.in-Text.kind c.in-Text.unit) b _ _ c.in-Text.is (λ one. c.add_text.ensures);
         scope = refl;
       };
       depth = refl;
@@ -103,10 +103,10 @@ content-returns-in-Text t c =
 pub content-returns-in-ShareText : goal.content-returns-in-ShareText
 content-returns-in-ShareText t c =
     let a = c.args.self.now in
+    let b = c.args.filler.now in
     record {
       read = record {
-        filled = leaf_filled a.scope (c.args.depth.now.left - 1) c.args.start.place (tag c.args.start.label) c.args.form (shares_text c.in-ShareText.kind) a.reader _ a.store.now _ _ c.in-ShareText.is c.share_text.ensures;
-        lent = refl;
+        fills = leaf_fills a.scope (c.args.depth.now.left - 1) c.args.start.place (tag c.args.start.label) c.args.form (shares_text c.in-ShareText.kind) b _ _ c.in-ShareText.is c.share_text.ensures;
         scope = refl;
       };
       depth = refl;
@@ -116,10 +116,10 @@ content-returns-in-ShareText t c =
 pub content-returns-in-ShareList : goal.content-returns-in-ShareList
 content-returns-in-ShareList t c =
     let a = c.args.self.now in
+    let b = c.args.filler.now in
     record {
       read = record {
-        filled = leaf_filled a.scope (c.args.depth.now.left - 1) c.args.start.place (tag c.args.start.label) c.args.form (shares_list c.in-ShareList.kind) a.reader _ a.store.now _ _ c.in-ShareList.is c.share_list.ensures;
-        lent = refl;
+        fills = leaf_fills a.scope (c.args.depth.now.left - 1) c.args.start.place (tag c.args.start.label) c.args.form (shares_list c.in-ShareList.kind) b _ _ c.in-ShareList.is c.share_list.ensures;
         scope = refl;
       };
       depth = refl;
@@ -129,10 +129,10 @@ content-returns-in-ShareList t c =
 pub content-returns-in-ShareObject : goal.content-returns-in-ShareObject
 content-returns-in-ShareObject t c =
     let a = c.args.self.now in
+    let b = c.args.filler.now in
     record {
       read = record {
-        filled = leaf_filled a.scope (c.args.depth.now.left - 1) c.args.start.place (tag c.args.start.label) c.args.form (shares_object c.in-ShareObject.owner) a.reader _ a.store.now _ _ c.in-ShareObject.is c.share_object.ensures;
-        lent = refl;
+        fills = leaf_fills a.scope (c.args.depth.now.left - 1) c.args.start.place (tag c.args.start.label) c.args.form (shares_object c.in-ShareObject.owner) b _ _ c.in-ShareObject.is c.share_object.ensures;
         scope = refl;
       };
       depth = refl;
@@ -143,13 +143,13 @@ pub content-returns-in-List : goal.content-returns-in-List
 unfolding content
 content-returns-in-List t c =
     let n = c.args.depth.now.left - 1 in
-    subst (λ (f : Form). Valued (λ s. content s (value s n) c.args.start.place (tag c.args.start.label) f) c.args.self.now c.args.depth.now c.list.result c.list.new.self c.list.new.depth) (sym c.in-List.is) c.list.ensures
+    subst (λ (f : Form). Valued (λ s. content s (value s n) c.args.start.place (tag c.args.start.label) f) c.args.self.now c.args.filler.now c.args.depth.now c.list.result c.list.new.self c.list.new.filler c.list.new.depth) (sym c.in-List.is) c.list.ensures
 
 pub content-returns-in-Object : goal.content-returns-in-Object
 unfolding content
 content-returns-in-Object t c =
     let n = c.args.depth.now.left - 1 in
-    subst (λ (f : Form). Valued (λ s. content s (value s n) c.args.start.place (tag c.args.start.label) f) c.args.self.now c.args.depth.now c.context.result c.context.new.self c.context.new.depth) (sym c.in-Object.is) c.context.ensures
+    subst (λ (f : Form). Valued (λ s. content s (value s n) c.args.start.place (tag c.args.start.label) f) c.args.self.now c.args.filler.now c.args.depth.now c.context.result c.context.new.self c.context.new.filler c.context.new.depth) (sym c.in-Object.is) c.context.ensures
 
 -- ---- value
 
@@ -157,8 +157,9 @@ pub value-returns-in_err-place : goal.value-returns-in_err-place
 value-returns-in_err-place t c =
     let p = err_from_is_err_and c.from_residual.result c.from_residual.ensures.1 in
     let a = c.args.self.now in
+    let b = c.args.filler.now in
     rw (p.1, p.2) (record {
-      read = record { filled = heading_stop a.scope c.args.depth.now.left c.args.name.now a.reader _ a.store.now _ c.in_err-place.ensures; lent = refl; scope = refl };
+      read = record { fills = record { filled = heading_stop a.scope c.args.depth.now.left c.args.name.now b.reader _ b.store.now _ c.in_err-place.ensures; lent = refl }; scope = refl };
       depth = refl;
       levels = λ i le. refl;
     })
@@ -166,8 +167,9 @@ value-returns-in_err-place t c =
 pub value-returns-then-depth-eq0 : goal.value-returns-then-depth-eq0
 value-returns-then-depth-eq0 t c =
     let a = c.args.self.now in
+    let b = c.args.filler.now in
     rw c.at.ensures (record {
-      read = record { filled = heading_deep a.scope c.args.depth.now.left c.args.name.now a.reader _ a.store.now _ (omega arith) c.in_ok-place.ensures; lent = refl; scope = refl };
+      read = record { fills = record { filled = heading_deep a.scope c.args.depth.now.left c.args.name.now b.reader _ b.store.now _ (omega arith) c.in_ok-place.ensures; lent = refl }; scope = refl };
       depth = refl;
       levels = λ i le. refl;
     })
@@ -175,9 +177,10 @@ value-returns-then-depth-eq0 t c =
 pub value-returns : goal.value-returns
 value-returns t c =
     let a = c.args.self.now in
+    let b = c.args.filler.now in
     let g = c.content.ensures in
     record {
-      read = record { filled = heading_then a.scope c.args.depth.now.left c.args.name.now a.reader _ a.store.now _ _ _ _ (omega arith) c.in_ok-place.ensures g.read.filled; lent = g.read.lent; scope = g.read.scope };
+      read = record { fills = record { filled = heading_then a.scope c.args.depth.now.left c.args.name.now b.reader _ b.store.now _ _ _ _ (omega arith) c.in_ok-place.ensures g.read.fills.filled; lent = g.read.fills.lent }; scope = g.read.scope };
       depth = g.depth;
       levels = g.levels;
     }
@@ -188,16 +191,17 @@ pub hold-returns-in_err-add_opened : goal.hold-returns-in_err-add_opened
 hold-returns-in_err-add_opened t c =
     let p = err_from_is_err_and c.from_residual.result c.from_residual.ensures.1 in
     let a = c.args.self.now in
+    let b = c.args.filler.now in
     let x = start_of (table_of a.scope.symbols) c.args.opening in
     rw (p.1, p.2) (record {
-      read = record { filled = held_refused a.scope (c.args.depth.now.left - 1) c.args.start.place (tag c.args.start.label) x a.reader a.store.now _ _ c.in_err-add_opened.ensures; lent = refl; scope = refl };
+      read = record { fills = record { filled = held_refused a.scope (c.args.depth.now.left - 1) c.args.start.place (tag c.args.start.label) x b.reader b.store.now _ _ c.in_err-add_opened.ensures; lent = refl }; scope = refl };
       depth = refl;
       levels = λ i le. refl;
     })
 
 pub hold-values-requires : goal.hold-values-requires
 hold-values-requires t c =
-    let b = c.args.self.now.store.now in
+    let b = c.args.filler.now.store.now in
     let x = c.add_opened.new.store in
     let s = opened_stands b x c.args.start.place (tag c.args.start.label) c.args.opening.holder c.in_ok-add_opened.ensures in
     let o = ap opened s in
@@ -210,12 +214,12 @@ pub hold-returns-in_err-values : goal.hold-returns-in_err-values
 hold-returns-in_err-values t c =
     let p = err_from_is_err_and c.from_residual-in_err-values.result c.from_residual-in_err-values.ensures.1 in
     let a = c.args.self.now in
+    let b = c.args.filler.now in
     let x = start_of (table_of a.scope.symbols) c.args.opening in
     let g = c.in_err-values.ensures.valued in
     rw (p.1, p.2) (record {
       read = record {
-        filled = held_broke a.scope (c.args.depth.now.left - 1) c.args.start.place (tag c.args.start.label) x a.reader a.store.now _ c.in_ok-add_opened.ensures _ _ _ g.read.filled;
-        lent = g.read.lent;
+        fills = record { filled = held_broke a.scope (c.args.depth.now.left - 1) c.args.start.place (tag c.args.start.label) x b.reader b.store.now _ c.in_ok-add_opened.ensures _ _ _ g.read.fills.filled; lent = g.read.fills.lent };
         scope = g.read.scope;
       };
       depth = g.depth;
@@ -224,20 +228,20 @@ hold-returns-in_err-values t c =
 
 pub hold-add_close-requires : goal.hold-add_close-requires
 hold-add_close-requires t c =
-    let b = c.args.self.now.store.now in
+    let b = c.args.filler.now.store.now in
     let s = opened_stands b c.add_opened.new.store c.args.start.place (tag c.args.start.label) c.args.opening.holder c.in_ok-add_opened.ensures in
-    let n : length (opened (standing c.values.new.self.store.now)) ≡ length (opened (standing b)) + 1 = ap length c.in_ok-values.ensures.same ∙ ap length (ap opened s) ∙ omega arith in
+    let n : length (opened (standing c.values.new.filler.store.now)) ≡ length (opened (standing b)) + 1 = ap length c.in_ok-values.ensures.same ∙ ap length (ap opened s) ∙ omega arith in
     omega (arith, n)
 
 pub hold-returns : goal.hold-returns
 hold-returns t c =
     let a = c.args.self.now in
+    let b = c.args.filler.now in
     let x = start_of (table_of a.scope.symbols) c.args.opening in
     let g = c.in_ok-values.ensures.valued in
     record {
       read = record {
-        filled = held_got a.scope (c.args.depth.now.left - 1) c.args.start.place (tag c.args.start.label) x a.reader a.store.now _ c.in_ok-add_opened.ensures _ _ _ g.read.filled c.add_close.ensures;
-        lent = g.read.lent;
+        fills = record { filled = held_got a.scope (c.args.depth.now.left - 1) c.args.start.place (tag c.args.start.label) x b.reader b.store.now _ c.in_ok-add_opened.ensures _ _ _ g.read.fills.filled c.add_close.ensures; lent = g.read.fills.lent };
         scope = g.read.scope;
       };
       depth = g.depth;
@@ -250,8 +254,9 @@ pub list-returns-in_err-opening : goal.list-returns-in_err-opening
 list-returns-in_err-opening t c =
     let p = err_from_is_err_and c.from_residual.result c.from_residual.ensures.1 in
     let a = c.args.self.now in
+    let b = c.args.filler.now in
     rw (p.1, p.2) (record {
-      read = record { filled = list_stop a.scope (c.args.depth.now.left - 1) c.args.start.place (tag c.args.start.label) a.reader _ a.store.now c.args.kind _ (c.in_err-opening.ensures []); lent = refl; scope = refl };
+      read = record { fills = record { filled = list_stop a.scope (c.args.depth.now.left - 1) c.args.start.place (tag c.args.start.label) b.reader _ b.store.now c.args.kind _ (c.in_err-opening.ensures []); lent = refl }; scope = refl };
       depth = refl;
       levels = λ i le. refl;
     })
@@ -264,11 +269,11 @@ list-hold-requires t c =
 pub list-returns : goal.list-returns
 list-returns t c =
     let a = c.args.self.now in
+    let b = c.args.filler.now in
     let g = c.hold.ensures in
     record {
       read = record {
-        filled = list_then a.scope (c.args.depth.now.left - 1) c.args.start.place (tag c.args.start.label) a.reader _ a.store.now c.args.kind _ _ _ _ (c.in_ok-opening.ensures (table_of a.scope.symbols)) g.read.filled;
-        lent = g.read.lent;
+        fills = record { filled = list_then a.scope (c.args.depth.now.left - 1) c.args.start.place (tag c.args.start.label) b.reader _ b.store.now c.args.kind _ _ _ _ (c.in_ok-opening.ensures (table_of a.scope.symbols)) g.read.fills.filled; lent = g.read.fills.lent };
         scope = g.read.scope;
       };
       depth = g.depth;
@@ -281,8 +286,9 @@ pub context-returns-in_err-fields : goal.context-returns-in_err-fields
 context-returns-in_err-fields t c =
     let p = err_from_is_err_and c.from_residual.result c.from_residual.ensures.1 in
     let a = c.args.self.now in
+    let b = c.args.filler.now in
     rw (p.1, p.2) (record {
-      read = record { filled = object_stop a.scope (c.args.depth.now.left - 1) c.args.start.place (tag c.args.start.label) a.reader _ a.store.now c.args.owner _ c.in_err-fields.ensures; lent = refl; scope = refl };
+      read = record { fills = record { filled = object_stop a.scope (c.args.depth.now.left - 1) c.args.start.place (tag c.args.start.label) b.reader _ b.store.now c.args.owner _ c.in_err-fields.ensures; lent = refl }; scope = refl };
       depth = refl;
       levels = λ i le. refl;
     })
@@ -291,8 +297,9 @@ pub context-returns-in_err-opening : goal.context-returns-in_err-opening
 context-returns-in_err-opening t c =
     let p = err_from_is_err_and c.from_residual-in_err-opening.result c.from_residual-in_err-opening.ensures.1 in
     let a = c.args.self.now in
+    let b = c.args.filler.now in
     rw (p.1, p.2) (record {
-      read = record { filled = context_stop a.scope (c.args.depth.now.left - 1) c.args.start.place (tag c.args.start.label) a.reader _ a.store.now c.args.owner _ c.in_ok-fields.ensures _ _ c.in_err-opening.ensures; lent = refl; scope = refl };
+      read = record { fills = record { filled = context_stop a.scope (c.args.depth.now.left - 1) c.args.start.place (tag c.args.start.label) b.reader _ b.store.now c.args.owner _ c.in_ok-fields.ensures _ _ c.in_err-opening.ensures; lent = refl }; scope = refl };
       depth = refl;
       levels = λ i le. refl;
     })
@@ -300,22 +307,23 @@ context-returns-in_err-opening t c =
 pub context-hold-requires : goal.context-hold-requires
 context-hold-requires t c =
     let a = c.args.self.now in
-    let q : InDraft = record { size = size_of a.reader; memory = memory_lent a.store.now; table = []; payload = 0 } in
+    let b = c.args.filler.now in
+    let q : InDraft = record { size = size_of b.reader; memory = memory_lent b.store.now; table = []; payload = 0 } in
     let f = fields_got c.args.owner c.args.start.place (tag c.args.start.label) q _ _ c.in_ok-fields.fields (c.in_ok-fields.ensures.came (in_draft q) refl refl) in
-    let z : Setting = record { size = size_of c.object_start.new.reader; uses = in_memory (memory_lent a.store.now); table = []; payload = 0 } in
+    let z : Setting = record { size = size_of c.object_start.new.reader; uses = in_memory (memory_lent b.store.now); table = []; payload = 0 } in
     let g = context_got c.in_ok-fields.fields (within a.scope z) _ _ (start_of (table_of a.scope.symbols) c.in_ok-opening.opening) f.class f.on_set f.arity a.lawful (c.in_ok-opening.ensures.ran z refl []) in
     (search rules, (c.requires.prepared, (c.requires.named, (c.requires.some, (g.allowed, rw g.marked g.named)))))
 
 pub context-returns : goal.context-returns
 context-returns t c =
     let a = c.args.self.now in
-    let q : InDraft = record { size = size_of a.reader; memory = memory_lent a.store.now; table = []; payload = 0 } in
+    let b = c.args.filler.now in
+    let q : InDraft = record { size = size_of b.reader; memory = memory_lent b.store.now; table = []; payload = 0 } in
     let f = fields_got c.args.owner c.args.start.place (tag c.args.start.label) q _ _ c.in_ok-fields.fields (c.in_ok-fields.ensures.came (in_draft q) refl refl) in
     let g = c.hold.ensures in
     record {
       read = record {
-        filled = context_then a.scope (c.args.depth.now.left - 1) c.args.start.place (tag c.args.start.label) a.reader c.object_start.new.reader a.store.now c.args.owner _ c.in_ok-fields.ensures c.context_start.new.reader _ _ _ _ f.room c.in_ok-opening.ensures g.read.filled;
-        lent = g.read.lent;
+        fills = record { filled = context_then a.scope (c.args.depth.now.left - 1) c.args.start.place (tag c.args.start.label) b.reader c.object_start.new.reader b.store.now c.args.owner _ c.in_ok-fields.ensures c.context_start.new.reader _ _ _ _ f.room c.in_ok-opening.ensures g.read.fills.filled; lent = g.read.fills.lent };
         scope = g.read.scope;
       };
       depth = g.depth;
@@ -326,28 +334,27 @@ context-returns t c =
 
 pub values-loop-name-preserved : goal.values-loop-name-preserved
 values-loop-name-preserved t c =
-    let deep : Prepared c.open-level.result.depth.now.left c.args.self.now.store.now = rw c.open-level.ensures.lower c.requires.prepared in
-    turn_again _ _ _ _ _ c.loop-name.level.depth.now _ c.loop-name.invariant refl refl refl c.in-Some.ensures deep _ _ c.in_ok-value.ensures
+    let deep : Prepared c.open-level.result.depth.now.left c.args.filler.now.store.now = rw c.open-level.ensures.lower c.requires.prepared in
+    turn_again _ _ _ _ _ _ _ c.loop-name.level.depth.now _ c.loop-name.invariant refl c.in-Some.ensures deep _ _ _ c.in_ok-value.ensures
 
 pub values-returns-in_err-value-clause-valued : goal.values-returns-in_err-value-clause-valued
 values-returns-in_err-value-clause-valued t c =
     let p = err_from_is_err_and c.from_residual.result c.from_residual.ensures.1 in
     let at = c.open-level.result.depth.now.left in
-    let deep : Prepared at c.args.self.now.store.now = rw c.open-level.ensures.lower c.requires.prepared in
+    let deep : Prepared at c.args.filler.now.store.now = rw c.open-level.ensures.lower c.requires.prepared in
     let inv = c.loop-name.invariant in
     let g = c.in_err-value.ensures in
     let d = c.loop-name.level.depth.now in
-    let f = turn_broke _ _ _ _ _ d _ inv refl refl refl c.in-Some.ensures deep _ _ _ g in
+    let f = turn_broke _ _ _ _ _ _ _ d _ inv refl c.in-Some.ensures deep _ _ _ _ g in
     rw (p.1, p.2) (record {
       read = record {
-        filled = filled_at c.args.self.now.scope at (c.args.depth.now.left - 1) _ _ _ _ _ _ _ c.open-level.ensures.lower (ap (names_left (table_of c.args.self.now.scope.symbols)) c.enter.ensures.0) f;
-        lent = lent_still _ _ _ _ _ d _ inv refl refl refl c.in-Some.ensures deep _ _ _ g;
-        scope = scope_still _ _ _ _ _ d _ inv refl refl refl c.in-Some.ensures deep _ _ _ g;
+        fills = record { filled = filled_at c.args.self.now.scope at (c.args.depth.now.left - 1) _ _ _ _ _ _ _ c.open-level.ensures.lower (ap (names_left (table_of c.args.self.now.scope.symbols)) c.enter.ensures.0) f; lent = lent_still _ _ _ _ _ _ _ d _ inv refl c.in-Some.ensures deep _ _ _ _ g };
+        scope = scope_still _ _ _ _ _ _ _ d _ inv refl c.in-Some.ensures deep _ _ _ _ g;
       };
       depth = search rules;
       levels = λ i le.
           let ne : i ≢ at = λ q. omega (arith, q, c.open-level.ensures.lower, c.requires.some) in
-          lower _ _ _ _ _ d _ inv refl refl refl c.in-Some.ensures deep _ _ _ g i (omega (arith, c.open-level.ensures.lower, c.requires.some)) ∙ c.enter.ensures.1 i ne;
+          lower _ _ _ _ _ _ _ d _ inv refl c.in-Some.ensures deep _ _ _ _ g i (omega (arith, c.open-level.ensures.lower, c.requires.some)) ∙ c.enter.ensures.1 i ne;
     })
 
 pub values-returns-clause-valued : goal.values-returns-clause-valued
@@ -355,9 +362,9 @@ values-returns-clause-valued t c =
     let at = c.open-level.result.depth.now.left in
     let inv = c.loop-name.invariant in
     let none = c.in_default.ensures in
-    let f = turn_end _ _ _ _ _ inv none.0 in
+    let f = turn_end _ _ _ _ _ _ _ inv none.0 in
     record {
-      read = record { filled = filled_at c.args.self.now.scope at (c.args.depth.now.left - 1) _ _ _ _ _ _ _ c.open-level.ensures.lower (ap (names_left (table_of c.args.self.now.scope.symbols)) c.enter.ensures.0) f; lent = inv.lent; scope = inv.scope };
+      read = record { fills = record { filled = filled_at c.args.self.now.scope at (c.args.depth.now.left - 1) _ _ _ _ _ _ _ c.open-level.ensures.lower (ap (names_left (table_of c.args.self.now.scope.symbols)) c.enter.ensures.0) f; lent = inv.lent }; scope = inv.scope };
       depth = search rules;
       levels = λ i le.
           let ne : i ≢ at = λ q. omega (arith, q, c.open-level.ensures.lower, c.requires.some) in

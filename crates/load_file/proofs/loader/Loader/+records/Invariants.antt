@@ -25,7 +25,7 @@ decreases-values l = 5 * l.depth.now.left
 
 abbrev pub invariant-values-loop-name : goal.invariant-values-loop-name
 invariant-values-loop-name l =
-    Turning l.at (names_left (table_of l.initial.self.scope.symbols) (record_at l.initial.self.levels.now.records l.at)) l.initial.self l.self l.level.depth.now.left
+    Turning l.at (names_left (table_of l.initial.self.scope.symbols) (record_at l.initial.self.levels.records l.at)) l.initial.self l.initial.filler l.self l.filler l.level.depth.now.left
 
 abbrev pub decreases-values-loop-name : goal.decreases-values-loop-name
-decreases-values-loop-name l = length (names_left (table_of l.self.scope.symbols) (record_at l.self.levels.now.records l.at))
+decreases-values-loop-name l = length (names_left (table_of l.self.scope.symbols) (record_at l.self.levels.records l.at))

@@ -29,12 +29,14 @@ returns-in_err-check_payload-clause-read c =
     let a = c.args.self.now in
     let k = a.scope in
     let n = c.args.count in
-    let r = a.reader in
-    let b = a.store.now in
+    let r = c.args.filler.now.reader in
+    let b = c.args.filler.now.store.now in
     rw (p.1, p.2) (record {
-      filled = filled_by r r b b (whole k n) (λ s. sized k n s >> (rooted k n s >> ended k n s)) _ (λ s q. records_by (within k s) n q)
-          (filled_stop r r b b (sized k n) (λ s _. rooted k n s >> ended k n s) _ (did_fills r r b (λ _. payload_rest k.payload) _ c.in_err-check_payload.ensures));
-      lent = refl;
+      fills = record {
+        filled = filled_by r r b b (whole k n) (λ s. sized k n s >> (rooted k n s >> ended k n s)) _ (λ s q. records_by (within k s) n q)
+            (filled_stop r r b b (sized k n) (λ s _. rooted k n s >> ended k n s) _ (did_fills r r b (λ _. payload_rest k.payload) _ c.in_err-check_payload.ensures));
+        lent = refl;
+      };
       scope = refl;
     })
 
@@ -44,14 +46,16 @@ returns-in_err-roots-clause-read c =
     let a = c.args.self.now in
     let k = a.scope in
     let n = c.args.count in
-    let r = a.reader in
-    let b = a.store.now in
+    let r = c.args.filler.now.reader in
+    let b = c.args.filler.now.store.now in
     let g = c.in_err-roots.ensures in
     rw (p.1, p.2) (record {
-      filled = filled_by r _ b _ (whole k n) (λ s. sized k n s >> (rooted k n s >> ended k n s)) _ (λ s q. records_by (within k s) n q)
-          (filled_then r r b b (sized k n) (λ s _. rooted k n s >> ended k n s) _ _ _ _ (did_fills r r b (λ _. payload_rest k.payload) _ c.in_ok-check_payload.ensures)
-          (filled_stop r _ b _ (rooted k n) (λ s _. ended k n s) _ g.filled));
-      lent = g.lent;
+      fills = record {
+        filled = filled_by r _ b _ (whole k n) (λ s. sized k n s >> (rooted k n s >> ended k n s)) _ (λ s q. records_by (within k s) n q)
+            (filled_then r r b b (sized k n) (λ s _. rooted k n s >> ended k n s) _ _ _ _ (did_fills r r b (λ _. payload_rest k.payload) _ c.in_ok-check_payload.ensures)
+            (filled_stop r _ b _ (rooted k n) (λ s _. ended k n s) _ g.fills.filled));
+        lent = g.fills.lent;
+      };
       scope = g.scope;
     })
 
@@ -60,13 +64,15 @@ returns-clause-read c =
     let a = c.args.self.now in
     let k = a.scope in
     let n = c.args.count in
-    let r = a.reader in
-    let b = a.store.now in
+    let r = c.args.filler.now.reader in
+    let b = c.args.filler.now.store.now in
     let g = c.in_ok-roots.ensures in
     record {
-      filled = filled_by r _ b _ (whole k n) (λ s. sized k n s >> (rooted k n s >> ended k n s)) _ (λ s q. records_by (within k s) n q)
-          (filled_then r r b b (sized k n) (λ s _. rooted k n s >> ended k n s) _ _ _ _ (did_fills r r b (λ _. payload_rest k.payload) _ c.in_ok-check_payload.ensures)
-          (filled_then r _ b _ (rooted k n) (λ s _. ended k n s) _ _ _ _ g.filled (did_fills _ _ _ nothing_left _ c.check_end.ensures)));
-      lent = g.lent;
+      fills = record {
+        filled = filled_by r _ b _ (whole k n) (λ s. sized k n s >> (rooted k n s >> ended k n s)) _ (λ s q. records_by (within k s) n q)
+            (filled_then r r b b (sized k n) (λ s _. rooted k n s >> ended k n s) _ _ _ _ (did_fills r r b (λ _. payload_rest k.payload) _ c.in_ok-check_payload.ensures)
+            (filled_then r _ b _ (rooted k n) (λ s _. ended k n s) _ _ _ _ g.fills.filled (did_fills _ _ _ nothing_left _ c.check_end.ensures)));
+        lent = g.fills.lent;
+      };
       scope = g.scope;
     }

@@ -5,8 +5,8 @@ use Rattle.steps.proofs.pile.Pile.part.Goals as goal
 pub returns : goal.returns
 returns g c =
     let xs = c.args.self.now.memory.now in
-    let s = c.args.start in
-    let l = c.args.len in
+    let s = c.args.span.start in
+    let l = c.args.span.len in
     let u = c.args.self.now.used in
     let h : s + l ≤ u = omega (arith, c.requires, length-take-le u xs c.args.self.now.within) in
     let a : s + l - s ≡ l = omega arith in

@@ -3,7 +3,7 @@ use Rattle.steps.specs.declared.parts.Sort.TheVariants.{Put}
 use Rattle.steps.specs.Given.{begun}
 use Rattle.steps.specs.Build.{sort_of}
 use Rattle.steps.proofs.Mapped.{part_behind, sort_mapped}
-use Rattle.steps.proofs.parts.Item.sort.Goals as goal
+use Rattle.steps.proofs.item.Item.sort.Goals as goal
 
 pub returns-in-Put : goal.returns-in-Put
 returns-in-Put c =
