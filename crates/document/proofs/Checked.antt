@@ -31,7 +31,7 @@ pub object_root : (os : List Opened) → Root ≡ innermost os → in_object os 
 object_root [] e = refl
 object_root (o ∷ os) e = absurd cc
 
-object_sort : (p : List ℕ) (s : Sort) → begun_object (begun_of p s) ≡ sort_is_object s
+pub object_sort : (p : List ℕ) (s : Sort) → begun_object (begun_of p s) ≡ sort_is_object s
 object_sort p (Put Nothing) = refl
 object_sort p (Put (Logic b)) = refl
 object_sort p (Put (Char n)) = refl

@@ -5,3 +5,4 @@ pub mod Undone
 pub mod Closing
 pub mod Reading
 pub mod Counting
+pub mod Propositions

@@ -4,6 +4,7 @@
 use command::{Command, FULL, Kind, Sizes, read_command, read_memory, words_of};
 use document::store::Memories;
 use gillsieve::draft::Draft;
+use listing::Listing;
 use listing::forms::{Header, LineForm, Table};
 use listing::lines::Lines;
 use refusal::Refusal;
@@ -24,6 +25,9 @@ fn begin(draft: &mut Draft<'_>, label: Label<'_>, begun: &Begun<Vec<u32>>) -> Re
     }
 }
 
+// How many bytes are written as digits at once.
+const PIECE: usize = 1024;
+
 fn answer(rt: &HostRuntime, done: Result<(), Refusal>) -> io::Result<()> {
     match done {
         Ok(()) => println!(rt; "accepted"),
@@ -31,14 +35,29 @@ fn answer(rt: &HostRuntime, done: Result<(), Refusal>) -> io::Result<()> {
     }
 }
 
+// Writes two hexadecimal digits for each byte, piece by piece, so that no file needs memory for all its digits.
+fn write_hex<W: Write>(out: &mut W, bytes: &[u8]) -> anyhow::Result<()> {
+    let mut digits = [0u8; 2 * PIECE];
+    for piece in bytes.chunks(PIECE) {
+        if let Some(text) = digits.get_mut(..2 * piece.len()) {
+            hex::encode_to_slice(piece, text)?;
+            out.write_all(text)?;
+        }
+    }
+    Ok(())
+}
+
 // Saves into an output of this size, and prints the file that was written.
 fn save(rt: &HostRuntime, draft: &Draft<'_>, room: usize) -> anyhow::Result<()> {
     let mut output = vec![in rt.alloc(); 0u8; room]?;
     match draft.save(&mut output) {
         Ok(length) => {
-            let file = output.as_slice().get(..length).unwrap_or(&[]);
-            let digits = hex::encode(rt.alloc(), file)?;
-            println!(rt; "accepted {length} x{digits}")?;
+            print!(rt; "accepted {length} x")?;
+            write_hex(
+                &mut rt.stdout(),
+                output.as_slice().get(..length).unwrap_or(&[]),
+            )?;
+            println!(rt)?;
         }
         Err(refusal) => println!(rt; "{refusal}")?,
     }
@@ -46,12 +65,15 @@ fn save(rt: &HostRuntime, draft: &Draft<'_>, room: usize) -> anyhow::Result<()> 
 }
 
 // Prints into a fresh listing of this form: the answer, and the lines that the listing has then.
-fn print_lines<F: LineForm>(
+fn print_lines<'m, F: LineForm>(
     rt: &HostRuntime,
     draft: &Draft<'_>,
-    memory: &mut [u8],
-) -> anyhow::Result<()> {
-    let mut listing = Lines::<&mut [u8], F>::new(memory);
+    memory: &'m mut [u8],
+) -> anyhow::Result<()>
+where
+    Lines<&'m mut [u8], F>: Listing,
+{
+    let mut listing = Lines::<&'m mut [u8], F>::new(memory);
     answer(rt, draft.print(&mut listing))?;
     rt.stdout().write_all(listing.text())?;
     Ok(())

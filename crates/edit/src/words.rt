@@ -106,11 +106,19 @@ pub fn bits(word: &str) -> Result<u64, Unread> {
     Ok(u64::from_be_bytes(bytes))
 }
 
+// A byte as two hexadecimal digits.
+fn byte(digits: &[u8]) -> Result<u8, Unread> {
+    let [byte] = <[u8; 1] as FromHex>::from_hex(digits)?;
+    Ok(byte)
+}
+
 // Bytes as `x` and two hexadecimal digits for each, or `-` for none.
 pub fn bytes(heap: Global, word: &str) -> Result<Vec<u8>, Unread> {
     match word.as_bytes() {
         [b'-'] => Ok(Vec::new(heap)),
-        [b'x', digits @ ..] => Ok(hex::decode(heap, digits)?),
+        [b'x', digits @ ..] if digits.len() % 2 == 0 => {
+            digits.chunks_exact(2).map(byte).try_collect(heap)
+        }
         _ => Err(Unread::Unknown),
     }
 }

@@ -11,7 +11,7 @@ use refusal::Reason;
 
 pub mod forms;
 pub mod lines;
-pub mod memory;
+mod memory;
 pub mod pairs;
 mod writes;
 
@@ -28,14 +28,15 @@ pub trait Listing {
     // whether a pair fits
     ghost holds: { Self → Pair → Bool };
 
-    ghost LONGEST: { ℕ };
+    // the bytes of its longest entry
+    ghost longest: { ℕ };
 
     // what an accepted pair leaves of the listing besides its meaning, as far as this kind of listing says
     ghost leaves: { Self → Pair → Self → Type 0 };
 
     // Answers `LONGEST`.
     fn longest_entry() -> usize
-        ensures { result ≡ LONGEST };
+        ensures { result ≡ longest };
 
     fn spare(&self) -> usize
         ensures { result ≡ room self.now };
@@ -50,14 +51,14 @@ pub trait Listing {
         ensures same { OnErr result (self.new ≡ self.old) };
 
     // With the bytes of the longest entry spare every good pair fits.
-    ghost roomy: { (s : Self) (p : Pair) → good p ≡ true → LONGEST ≤ room s → holds s p ≡ true };
+    ghost roomy: { (s : Self) (p : Pair) → good p ≡ true → longest ≤ room s → holds s p ≡ true };
 
     // A bad pair never does.
     ghost sure: { (s : Self) (p : Pair) → holds s p ≡ true → good p ≡ true };
 
     // Holds no code: says these two laws.
     final fn longest_suffices()
-        ensures roomy { (s : Self) (p : Pair) → good p ≡ true → LONGEST ≤ room s → holds s p ≡ true }
+        ensures roomy { (s : Self) (p : Pair) → good p ≡ true → longest ≤ room s → holds s p ≡ true }
         ensures sure { (s : Self) (p : Pair) → holds s p ≡ true → good p ≡ true }
     {}
 }

@@ -1,18 +1,17 @@
-ghost use Rattle.std.specs.Prelude.{◌≡◌, [], length};
+ghost use Rattle.std.specs.Prelude.{◌≡◌, [], length, OnOk, OnErr};
 ghost use Rattle.refusal.specs.Numbers.{refused_with};
 ghost use Rattle.listing.specs.Pairs.{pair_of, good};
-ghost use Rattle.listing.specs.Listings.{refusal as why_refused};
+ghost use Rattle.listing.specs.Listings.{refusal as why_refused, Added};
 ghost use Rattle.listing.specs.Memory.{unused, means, fits_in, Kept, Appended, Text};
-ghost use Rattle.listing.specs.Sizes.{fits_longest};
-ghost use Rattle.std.proofs.Common.{rules};
 
-use crate::Listing;
 use crate::forms::{Header, LineForm, Table};
 use crate::memory::Memory;
 use crate::pairs::{Entry, is_good};
 use crate::writes::{line_size, put_line};
 use refusal::Reason;
 use std::marker::PhantomData;
+
+pub mod kinds;
 
 // Lines of a form, in the first bytes of lent memory. How many are used stands beside, since no call has a heap.
 #[derive(Drop)]
@@ -58,43 +57,32 @@ impl<M: Memory, F: LineForm> Lines<M, F> {
         if !is_good(entry) {
             return Err(Reason::NotTuning);
         }
-        if line_size::<F>(entry) > self.spare() {
+        if line_size::<F>(entry) > self.unused() {
             return Err(Reason::DoesNotFit);
         }
         Ok(())
     }
-}
 
-impl<M: Memory, F: LineForm> Listing for Lines<M, F> {
-    const LONGEST: usize = F::LONGEST;
-
-    ghost meaning = { λ s. means F.form (M.stored s.memory) s.used };
-
-    ghost room = { λ s. unused (M.stored s.memory) s.used };
-
-    ghost holds = { λ s p. fits_in F.form (M.stored s.memory) s.used p };
-
-    ghost LONGEST = { F.LONGEST };
-
-    ghost leaves = { λ s p t. Appended F.form (M.stored s.memory) s.used p (M.stored t.memory) t.used };
-
-    ghost roomy = { λ s p h k. fits_longest F.form (M.stored s.memory) s.used p h (Prim.search (rules, F.longest)) };
-
-    ghost sure = { Prim.search rules };
-
-    fn longest_entry() -> usize {
-        Self::LONGEST
-    }
-
-    fn spare(&self) -> usize {
+    // How many bytes are not used.
+    fn unused(&self) -> usize
+        ensures { result ≡ unused (M.stored self.now.memory) self.now.used }
+    {
         self.memory.as_bytes().len() - self.used
     }
 
-    fn fits(&self, entry: &Entry<'_>) -> bool {
+    // Whether an entry is good and its line fits in the unused bytes.
+    fn takes(&self, entry: &Entry<'_>) -> bool
+        ensures { result ≡ fits_in F.form (M.stored self.now.memory) self.now.used (pair_of entry.now) }
+    {
         self.check(entry).is_ok()
     }
 
-    fn add(&mut self, entry: &Entry<'_>) -> Result<(), Reason> {
+    // Adds the line of an entry, or says why not.
+    fn append(&mut self, entry: &Entry<'_>) -> Result<(), Reason>
+        ensures answer { refused_with result ≡ why_refused (good (pair_of entry.now)) (fits_in F.form (M.stored self.old.memory) self.old.used (pair_of entry.now)) }
+        ensures added { OnOk result (Added (λ s. means F.form (M.stored s.memory) s.used) (λ s p. fits_in F.form (M.stored s.memory) s.used p) (λ s p t. Appended F.form (M.stored s.memory) s.used p (M.stored t.memory) t.used) self.old (pair_of entry.now) self.new) }
+        ensures same { OnErr result (self.new ≡ self.old) }
+    {
         self.check(entry)?;
         let end = put_line::<_, F>(&mut self.memory, self.used, entry);
         self.used = end;

@@ -1,7 +1,7 @@
 ghost use Rattle.std.specs.Prelude.{◌≡◌, ℕ, ◌+◌, ◌≤◌, List, length};
 ghost use Rattle.listing.specs.Memory.{written};
 
-// Memory that is lent. A bound, since in an impl that names a lifetime the check can't tie `LONGEST` to its ghost member.
+// Memory that is lent. A bound, so that `Lines` names no lifetime.
 pub trait Memory: Drop {
     // its bytes
     ghost stored: { Self → List ℕ };

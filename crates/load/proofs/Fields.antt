@@ -66,11 +66,12 @@ module _ (r s : Reader) (part : Part) (unit limit : ℕ) (why : Reason) where
   number_short w d = record { file = d.file; ran = λ e. number_read (state (rest_of r) e) ∙ rw (d.ran e) }
 
   module _ (bytes : List ℕ) (d : Did r (λ size. piece size part unit) (Ok bytes) s) where
-    pub number_large : limit ≤ number bytes → Did r (λ size. below size part unit limit why) (Err (because why part r.place)) s
+    -- the reader `q` may stand where it will: a refusal says nothing of it
+    pub number_large : (q : Reader) → q.file ≡ r.file → limit ≤ number bytes → Did r (λ size. below size part unit limit why) (Err (because why part r.place)) q
     unfolding after
-    number_large h =
+    number_large q f h =
         let t : ltb (number bytes) limit ≡ false = grind (arith, nat_tests) in
-        record { file = d.file; ran = λ e. number_read (state (rest_of r) e) ∙ rw (d.ran e, t, place_at r.file.now r.place r.within) }
+        record { file = f; ran = λ e. number_read (state (rest_of r) e) ∙ rw (d.ran e, t, place_at r.file.now r.place r.within) }
 
     pub number_got : number bytes < limit → Did r (λ size. below size part unit limit why) (Ok (number bytes)) s
     unfolding after

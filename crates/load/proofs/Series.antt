@@ -110,11 +110,12 @@ module _ (r s : Reader) (part : Part) (unit limit : ℕ) (why : Reason) (n : ℕ
         let all : Sought unit limit n (rest_of r) None = sought_in unit limit n (rest_of r) None (rw is at h) in
         record { file = d.file; ran = λ e. begins e ∙ series_all (size_of r) part unit limit why e n (rest_of r) fits all ∙ rw (is, entries_take unit n (rest_of r), d.file, moved, drop-drop (n * unit) r.place r.file.now) }
 
-    pub run_bad : (k : ℕ) → Sought unit limit n bytes (Some k) → Did r (λ size. run size part unit limit why n) (Err (because why part (r.place + k * unit))) s
-    run_bad k h =
+    -- the reader `q` may stand where it will: a refusal says nothing of it
+    pub run_bad : (q : Reader) → q.file ≡ r.file → (k : ℕ) → Sought unit limit n bytes (Some k) → Did r (λ size. run size part unit limit why n) (Err (because why part (r.place + k * unit))) q
+    run_bad q f k h =
         let g : Sought unit limit n (rest_of r) (Some k) = sought_in unit limit n (rest_of r) (Some k) (rw is at h) in
         let p = place_at r.file.now r.place r.within in
-        record { file = d.file; ran = λ e. begins e ∙ series_bad (size_of r) part unit limit why e n k (rest_of r) (omega (arith, length-drop r.place r.file.now)) fits g.0 g.1 g.2 ∙ rw p }
+        record { file = f; ran = λ e. begins e ∙ series_bad (size_of r) part unit limit why e n k (rest_of r) (omega (arith, length-drop r.place r.file.now)) fits g.0 g.1 g.2 ∙ rw p }
 
 -- one number more
 pub entries_more : (unit n : ℕ) (bytes : List ℕ) → entries unit (suc n) bytes ≡ entries unit n bytes ++ (entry unit n bytes ∷ [])

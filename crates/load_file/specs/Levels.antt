@@ -1,5 +1,5 @@
 -- The records of the levels that are open, and the names of the values that are left at a level.
-use Rattle.std.specs.Prelude.{◌≡◌, ℕ, ◌+◌, ◌≤◌, List, [], ◌∷◌, map, replicate, Some, None, Option, ◌≢◌, slice_index_or}
+use Rattle.std.specs.Prelude.{◌≡◌, ℕ, ◌+◌, ◌≤◌, Bool, true, false, List, [], ◌∷◌, map, replicate, Some, None, Option, ◌≢◌, slice_index_or}
 use Rattle.steps.specs.Steps.{Name}
 use Rattle.redbin.specs.Bytes.{number}
 use Rattle.redbin.specs.Reading.{named_by}
@@ -22,6 +22,11 @@ Changed before at r after = (record_at after at ≡ r) × ((i : ℕ) → (i ≢ 
 abbrev pub names_left : List Name → LevelRecord → List Name
 names_left table (Unnamed n) = replicate n []
 names_left table (Named is) = named_by table (map number is.now)
+
+-- the values of the level have no names
+abbrev pub is_unnamed : LevelRecord → Bool
+is_unnamed (Unnamed n) = true
+is_unnamed (Named is) = false
 
 -- one value fewer is left
 abbrev pub Fewer : LevelRecord → LevelRecord → Type 0

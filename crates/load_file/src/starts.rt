@@ -5,7 +5,8 @@ ghost use Rattle.load.specs.Ran.{Did, DidIn, as_read};
 ghost use Rattle.load.specs.Filled.{Filled};
 ghost use Rattle.load.specs.Tables.{table_of};
 ghost use Rattle.load_file.specs.Scopes.{within, start_of, list_start, object_start, context_start};
-ghost use Rattle.std.specs.Prelude.{List};
+ghost use Rattle.load_file.specs.Levels.{is_unnamed};
+ghost use Rattle.std.specs.Prelude.{◌≡◌, List, true, IfOk};
 
 use crate::levels::LevelRecord;
 use crate::scope::{Fields, Opening, Scope};
@@ -19,7 +20,8 @@ use steps::parts::{Holder, ListKind};
 // A list's head and length.
 #[tactic(auto, unfolding(redbin::specs::Reading::after))]
 pub fn list_start<'f>(reader: &mut Reader<'f>, kind: ListKind) -> Result<Opening<'f>, Refusal>
-    ensures { (table : List Name) → Did reader.old (list_start kind) (as_read (start_of table) result) reader.new }
+    ensures did { (table : List Name) → Did reader.old (list_start kind) (as_read (start_of table) result) reader.new }
+    ensures unnamed { IfOk result (λ o. is_unnamed o.level ≡ true) }
 {
     let head = reader.word(Part::Record)?;
     let left = reader.word(Part::Record)?;

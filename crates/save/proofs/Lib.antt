@@ -17,3 +17,4 @@ pub mod Cleaned
 pub mod Whole
 pub mod Numbered
 pub mod Found
+pub mod Listed

@@ -1,5 +1,5 @@
 -- Along the names of a document.
-use Rattle.std.proofs.Common.{◌≡◌, ℕ, zero, suc, ◌+◌, ◌-◌, ◌*◌, ◌<◌, ◌≤◌, true, List, [], ◌∷◌, ◌++◌, length, take, Some, sym, ap, ◌∙◌, suc-mul, mul-le-mul, add-one, arith, length-append}
+use Rattle.std.proofs.Common.{◌≡◌, ℕ, zero, suc, ◌+◌, ◌-◌, ◌*◌, ◌<◌, ◌≤◌, true, false, Option, None, List, [], ◌∷◌, ◌++◌, length, take, Some, sym, refl, ap, ◌∙◌, suc-mul, mul-le-mul, add-one, arith, length-append}
 use Rattle.std.specs.List.{range_with_len, flat_map}
 use Rattle.std.specs.declared.ops.Range.{Range}
 use Rattle.std.proofs.iter.Yields.{nat_range_steps}
@@ -10,7 +10,7 @@ use Rattle.steps.specs.declared.parts.Holder.{Holder}
 use Rattle.steps.specs.declared.parts.Holder.TheVariants.{List as OfList, Object as OfObject}
 use Rattle.steps.specs.Steps.{Begun, put, open', share}
 use Rattle.steps.specs.Outline.{Entry, entry_at, begun_at, inner_names}
-use Rattle.steps.specs.Build.{begun_object}
+use Rattle.steps.specs.Build.{begun_object, object_in}
 use Rattle.steps.proofs.Entered.{begun_in, begun_entry}
 use Rattle.redbin.specs.Canonical.{names_if_object, written_names}
 use Rattle.redbin.proofs.Paths.{Sound}
@@ -25,13 +25,27 @@ use Rattle.save.proofs.Numbered.{range_push, inner_until}
 -- ---- the names that one value adds
 
 -- as many as a document counts, where it is an object
-pub object_count : (all : List Entry) (n k : ℕ) (x : Entry) → Some x ≡ entry_at all n → true ≡ begun_object x.begun → ((h : Holder) → begun_at all n ≡ Some (open' h) → k ≡ length (inner_names all (At n))) → k ≡ length (names_at all n)
-object_count all n k x e t c = by x.begun (begun_entry all n ∙ ap begun_in (sym e)) (ap (names_if all n) (sym e)) t where
+pub object_count : (all : List Entry) (n k : ℕ) → true ≡ object_in (entry_at all n) → ((h : Holder) → begun_at all n ≡ Some (open' h) → k ≡ length (inner_names all (At n))) → k ≡ length (names_at all n)
+object_count all n k t c = in_entry (entry_at all n) refl t where
   by : (b : Begun) → begun_at all n ≡ Some b → names_at all n ≡ names_if_object all n b → true ≡ begun_object b → k ≡ length (names_at all n)
   by (put v) d m t = absurd (let z : ◌≡◌ {A = ℕ} 0 1 = cc in omega arith)
   by (open' (OfList j h)) d m t = absurd (let z : ◌≡◌ {A = ℕ} 0 1 = cc in omega arith)
   by (open' (OfObject w s q a i)) d m t = c (OfObject w s q a i) d ∙ ap length (sym m)
   by (share s q) d m t = absurd (let z : ◌≡◌ {A = ℕ} 0 1 = cc in omega arith)
+
+  in_entry : (o : Option Entry) → entry_at all n ≡ o → true ≡ object_in o → k ≡ length (names_at all n)
+  in_entry None e t = absurd (let z : ◌≡◌ {A = ℕ} 0 1 = cc in omega arith)
+  in_entry (Some x) e t = by x.begun (begun_entry all n ∙ ap begun_in e) (ap (names_if all n) e) t
+
+-- none, where it is no object
+pub no_object : (all : List Entry) (n : ℕ) (o : Option Entry) → false ≡ object_in o → 0 ≡ length (names_if all n o)
+no_object all n None t = refl
+no_object all n (Some x) t = by x.begun t where
+  by : (b : Begun) → false ≡ begun_object b → 0 ≡ length (names_if_object all n b)
+  by (put v) t = refl
+  by (open' (OfList j h)) t = refl
+  by (open' (OfObject w s q a i)) t = absurd (let z : ◌≡◌ {A = ℕ} 0 1 = cc in omega arith)
+  by (share s q) t = refl
 
 -- those of the first inner values, as many as there are
 pub inner_first : (all : List Entry) → Sound all → (v k : ℕ) → v < length all → k ≡ length (inner_names all (At v)) → names_of all (take k (inner_of all (At v) (v + 1) (length all - (v + 1)))) ≡ inner_names all (At v)

@@ -12,10 +12,10 @@ abbrev pub Clean : List Name → Type 0
 Clean [] = Unit {0}
 Clean (n ∷ ns) = (no_zero n ≡ true) × Clean ns
 
--- a step along strings: behind the last there is none, and else it takes the first name, and leaves the strings behind it
+-- a step along strings: behind the last there is none, and else it takes the first string, and leaves the strings behind it
 pub record TakesStored (from : List ℕ) (r : Option (Bor (List ℕ))) (left : List ℕ) : Type 0 where
   pub none : from ≡ [] → r ≡ None
-  pub some : (n : Name) (rest : List ℕ) → from ≡ stored n ++ rest → no_zero n ≡ true → IsSomeAnd r (λ x. (x.now ≡ n) × (left ≡ rest))
+  pub some : (n : Name) (rest : List ℕ) → from ≡ stored n ++ rest → no_zero n ≡ true → IsSomeAnd r (λ x. (x.now ≡ stored n) × (left ≡ rest))
 
 -- the strings of these names stand in the memory, where no further byte goes
 pub record Tabled (o : Output) (start end : ℕ) (names : List Name) : Type 0 where

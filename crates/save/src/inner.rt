@@ -41,6 +41,7 @@ impl Iterator for Inner<'_, '_> {
 
     ghost next_gives = { YieldsFirst inner_left };
 
+    #[inline(always)]
     fn next(&mut self) -> Option<u32> {
         let store = self.store;
         let holder = self.holder;

@@ -22,12 +22,13 @@ pub struct Names<'s, 'a> {
 }
 
 // How many names the record of a value has the indexes of.
-fn name_count(store: &Store<'_>, number: u32) -> u32
+pub fn name_count(store: &Store<'_>, number: u32) -> u32
     ensures { result ≡ length (names_at (values (standing store.now)) number) }
 {
-    match store.entry(number) {
-        Some(entry) if entry.item.opens_object() => store.inner_count(number),
-        _ => 0,
+    if store.is_object(number) {
+        store.inner_count(number)
+    } else {
+        0
     }
 }
 

@@ -12,8 +12,8 @@ use steps::parts::Node;
 pub fn name_of<'s>(store: &'s Store<'_>, number: u32) -> &'s [u8]
     ensures { result.now ≡ name_in (entry_at (values (standing store.now)) number) }
 {
-    match store.entry(number) {
-        Some(entry) => entry.label.name,
+    match store.label(number) {
+        Some(label) => label.name,
         None => &[],
     }
 }

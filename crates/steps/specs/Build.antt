@@ -1,5 +1,5 @@
 -- The cells, codepoints and name bytes that steps build, and the steps that these tell of.
-use Rattle.std.specs.Prelude.{ℕ, zero, suc, ◌+◌, ◌-◌, ◌^◌, ◌<◌, Bool, false, List, [], ◌∷◌, ◌++◌, length, take, drop, replicate, slice_index_or}
+use Rattle.std.specs.Prelude.{ℕ, zero, suc, ◌+◌, ◌-◌, ◌^◌, ◌<◌, Bool, false, Option, Some, None, List, [], ◌∷◌, ◌++◌, length, take, drop, replicate, slice_index_or}
 use Rattle.steps.specs.declared.parts.Node.{Node}
 use Rattle.steps.specs.declared.parts.Node.TheVariants.{Root, At}
 use Rattle.steps.specs.declared.parts.Family.{Family}
@@ -216,6 +216,11 @@ abbrev pub begun_object : Begun → Bool
 begun_object (put v) = false
 begun_object (open' h) = is_object h
 begun_object (share s t) = false
+
+-- whether it is a value that opens an object
+abbrev pub object_in : Option Entry → Bool
+object_in None = false
+object_in (Some x) = begun_object x.begun
 
 abbrev pub sort_is_object : Sort → Bool
 sort_is_object s = begun_object (begun_of [] s)

@@ -117,6 +117,15 @@ impl<'a, T: Copy> Pile<'a, T> {
         memory[at as usize]
     }
 
+    // The same where it stands, not copied.
+    pub fn at(&self, at: u32) -> &T
+        requires { at < length (items self.now) }
+        ensures { (d : T) → result.now ≡ slice_index_or (items self.now) at d }
+    {
+        let memory = &*self.memory;
+        &memory[at as usize]
+    }
+
     // A part of those in use.
     pub fn part(&self, span: Span) -> &[T]
         requires { span.start + span.len ≤ length (items self.now) }

@@ -1,12 +1,12 @@
 // What stands in a store, value by value.
-ghost use Rattle.std.specs.Prelude.{◌≡◌, ◌<◌, ◌≤◌, length, Some as some, MatchOption, nat_lt};
+ghost use Rattle.std.specs.Prelude.{◌≡◌, ◌<◌, ◌≤◌, length, Some as some, None as nothing, MatchOption, nat_lt};
 ghost use Rattle.std.specs.Option.{option_map};
 ghost use Rattle.steps.specs.declared.parts.Node.TheVariants.{At as at};
-ghost use Rattle.steps.specs.Given.{entry};
+ghost use Rattle.steps.specs.Given.{entry, tag};
 ghost use Rattle.steps.specs.Steps.{open' as opening};
-ghost use Rattle.steps.specs.Outline.{values, opened, entry_at, begun_at, holder_in, held_by, inner_names};
+ghost use Rattle.steps.specs.Outline.{values, opened, entry_at, begun_at, label_in, holder_in, held_by, inner_names};
 ghost use Rattle.steps.specs.Items.{items};
-ghost use Rattle.steps.specs.Build.{cell_at};
+ghost use Rattle.steps.specs.Build.{cell_at, object_in};
 ghost use Rattle.document.specs.Standing.{standing, none_stands};
 
 use crate::store::Store;
@@ -34,18 +34,20 @@ impl<'a> Store<'a> {
         self.cells.count()
     }
 
-    // The cell of a number, if there is one.
-    pub(crate) fn cell(&self, number: u32) -> Option<Cell>
-        ensures { MatchOption result (length (items self.now.cells) ≤ number) (λ c. (number < length (items self.now.cells)) × (c ≡ cell_at (items self.now.cells) number)) }
+    // The cell of a number, if there is one. It is not copied, since most look at one field.
+    #[inline(always)]
+    pub(crate) fn cell(&self, number: u32) -> Option<&Cell>
+        ensures { MatchOption result (length (items self.now.cells) ≤ number) (λ c. (number < length (items self.now.cells)) × (c.now ≡ cell_at (items self.now.cells) number)) }
     {
         if number < self.cells.count() {
-            Some(self.cells.get(number))
+            Some(self.cells.at(number))
         } else {
             None
         }
     }
 
     // What holds the value of a number, if there is such a value.
+    #[inline(always)]
     pub fn holder_of(&self, number: u32) -> Option<Node>
         ensures { result ≡ holder_in (entry_at (values (standing self.now)) number) }
     {
@@ -53,10 +55,34 @@ impl<'a> Store<'a> {
     }
 
     // Whether the value of a number stands directly in a list or object, or at the root.
+    #[inline(always)]
     pub fn is_held(&self, number: u32, holder: Node) -> bool
         ensures { result ≡ held_by (entry_at (values (standing self.now)) number) holder }
     {
         self.holder_of(number) == Some(holder)
+    }
+
+    // The new-line mark and the name of the value of a number, if there is one.
+    #[inline(always)]
+    pub fn label(&self, number: u32) -> Option<Label<'_>>
+        ensures { MatchOption result (entry_at (values (standing self.now)) number ≡ nothing) (λ l. label_in (entry_at (values (standing self.now)) number) ≡ some (tag l)) }
+    {
+        let cell = self.cell(number)?;
+        let text = self.names.part(cell.name);
+        Some(Label {
+            new_line: cell.new_line,
+            name: text,
+        })
+    }
+
+    // Whether the value of a number is an opened object.
+    pub fn is_object(&self, number: u32) -> bool
+        ensures { result ≡ object_in (entry_at (values (standing self.now)) number) }
+    {
+        match self.cell(number) {
+            Some(cell) => cell.sort.is_object(),
+            None => false,
+        }
     }
 
     // The value of a number, if there is one.

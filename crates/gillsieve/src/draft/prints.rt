@@ -20,6 +20,7 @@ impl<'a> Draft<'a> {
         if let Some(number) = offender(&self.store) {
             return Err(Reason::NotTuning.at(Part::Draft, number as usize));
         }
-        Ok(list_delays(&self.store, listing)?)
+        let given = list_delays(&self.store, listing);
+        Ok(given?)
     }
 }

@@ -60,13 +60,14 @@ impl<'f> Reader<'f> {
         Ok(bytes)
     }
 
-    // A number of four bytes, which has to be below a limit.
+    // A number of four bytes, which has to be below a limit. A refused one is not read over.
     pub fn number(&mut self, part: Part, end: u64, why: Reason) -> Result<u32, Refusal>
         ensures { Did self.old (λ size. below size part 4 end why) result self.new }
     {
         let place = self.place;
         let n = u32::from_le_bytes(*self.array(part)?);
         if n as u64 >= end {
+            self.place = place;
             return Err(why.at(part, place));
         }
         Ok(n)

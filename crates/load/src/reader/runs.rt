@@ -12,7 +12,7 @@ use redbin::width::Width;
 use refusal::{Part, Reason, Refusal};
 
 impl<'f> Reader<'f> {
-    // The bytes of `n` numbers, each of which has to be below a limit.
+    // The bytes of `n` numbers, each of which has to be below a limit. Refused ones are not read over.
     pub fn run(
         &mut self,
         part: Part,
@@ -30,7 +30,10 @@ impl<'f> Reader<'f> {
         let bytes = self.bytes(part, span(unit, n))?;
         match first_bad(bytes, unit, end) {
             None => Ok(bytes),
-            Some(i) => Err(why.at(part, place + i * unit.bytes() as usize)),
+            Some(i) => {
+                self.place = place;
+                Err(why.at(part, place + i * unit.bytes() as usize))
+            }
         }
     }
 

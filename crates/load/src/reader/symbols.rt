@@ -29,4 +29,12 @@ impl<'f> Reader<'f> {
             Some(i) => Err(Reason::BadSymbol.at(part, place + i * 4)),
         }
     }
+
+    // The index of a symbol, which stands at a place of the file.
+    pub fn symbol_at(&self, place: usize) -> u32
+        requires { place + 4 ≤ size_of self.now }
+        ensures { result ≡ number (take 4 (drop place self.now.file.now)) }
+    {
+        number(&self.file[place..])
+    }
 }

@@ -1,14 +1,29 @@
-use Rattle.std.proofs.Common.{rules, tests}
-use Rattle.std.proofs.lemmas.Iterator.{YieldsList-from_take}
-use Rattle.std.proofs.lemmas.Iterator.Search.{any_from_yields_List}
-use Rattle.std.proofs.lemmas.Iterator.Consumers.{YieldsList-at, YieldsList-from_first}
+use Rattle.std.proofs.Common.{take, sym, ap, ◌∙◌, arith}
 use Rattle.steps.specs.Outline.{values}
 use Rattle.document.specs.Standing.{standing}
-use Rattle.redbin.specs.Bytes.{same}
-use Rattle.save.specs.Names.{in_order}
-use Rattle.save.specs.Left.{names_left}
+use Rattle.save.specs.Names.{listed}
+use Rattle.save.proofs.Listed.{names_from, listed_start, listed_here, listed_later, listed_end}
 use Rattle.save.proofs.symbols.is_listed.Goals as goal
+
+pub loop-object-init : goal.loop-object-init
+loop-object-init c = listed_start (values (standing c.args.store.now)) c.args.end c.args.name.now
+
+pub returns-then-left-eq0 : goal.returns-then-left-eq0
+returns-then-left-eq0 c =
+    let rest = names_from (values (standing c.args.store.now)) c.loop-object.object in
+    sym (c.loop-object.invariant ∙ ap (λ k. listed c.args.name.now (take k rest)) c.if-left-eq0.true)
+
+pub is_among-requires : goal.is_among-requires
+is_among-requires c = record { there = omega (arith, c.count-object-end.ensures); within = omega (arith, c.name_count.ensures, c.min-count.ensures) }
+
+pub returns-then-is_among : goal.returns-then-is_among
+returns-then-is_among c =
+    sym (c.loop-object.invariant ∙ listed_here (values (standing c.args.store.now)) c.loop-object.object c.loop-object.left _ c.args.name.now (omega (arith, c.count-object-end.ensures)) (omega (arith, c.name_count.ensures, c.min-count.ensures)) c.if-is_among.ensures)
+
+pub loop-object-preserved : goal.loop-object-preserved
+loop-object-preserved c =
+    c.loop-object.invariant ∙ listed_later (values (standing c.args.store.now)) c.loop-object.object c.loop-object.left _ c.args.name.now (omega (arith, c.count-object-end.ensures)) (omega (arith, c.name_count.ensures, c.min-count.ensures)) c.if-is_among.ensures
 
 pub returns : goal.returns
 returns c =
-    any_from_yields_List (λ m. same m c.args.name.now) c.any.new.self _ c.any.result c.any.ensures.ran (YieldsList-from_take c.args.end (YieldsList-at c.take.ensures.source (YieldsList-from_first (λ x. x.now) names_left (in_order (values (standing c.args.store.now))) c.of.ensures)) c.take.ensures.count) (λ x b q k. search (rules, tests))
+    sym (c.loop-object.invariant ∙ listed_end (values (standing c.args.store.now)) c.loop-object.object c.loop-object.left c.args.name.now (omega (arith, c.count-object-end.ensures)))

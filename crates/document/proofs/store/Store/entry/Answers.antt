@@ -21,11 +21,11 @@ part-codepoints-requires c =
     let s = c.args.self.now in
     let e = c.in_ok-cell.ensures in
     subst (λ x. x.start + x.len ≤ length (items s.codepoints)) (sym c.span.ensures)
-    (span_within s c.args.number c.in_ok-cell.cell e.0 e.1)
+    (span_within s c.args.number c.in_ok-cell.cell.now e.0 e.1)
 
 pub returns : goal.returns
 returns c =
     let s = c.args.self.now in
     let e = c.in_ok-cell.ensures in
-    sym (read_entry s c.args.number c.in_ok-cell.cell (begun c.item.result) c.part-name.result.now c.part-codepoints.result.now e.0 e.1
+    sym (read_entry s c.args.number c.in_ok-cell.cell.now (begun c.item.result) c.part-name.result.now c.part-codepoints.result.now e.0 e.1
     c.part-name.ensures (c.part-codepoints.ensures ∙ ap (λ x. part x (items s.codepoints)) c.span.ensures) c.item.ensures)

@@ -7,7 +7,7 @@ use Rattle.document.proofs.store.Store.suits.Goals as goal
 pub returns-in-Some : goal.returns-in-Some
 returns-in-Some c =
     let e = c.in-Some.ensures in
-    suits_at c.args.self.now c.in-At.number c.args.family c.suits.result c.in-Some.cell e.0 c.suits.ensures e.1
+    suits_at c.args.self.now c.in-At.number c.args.family c.suits.result c.in-Some.cell.now e.0 c.suits.ensures e.1
     ∙ ap (λ t. suits (values (standing c.args.self.now)) t c.args.family) (sym c.in-At.is)
 
 pub returns-in-None : goal.returns-in-None

@@ -5,16 +5,16 @@ use Rattle.gillsieve.proofs.Calls.{answered_err}
 use Rattle.gillsieve.proofs.Printing.{Giving, print_did, print_listed}
 use Rattle.gillsieve.proofs.draft.Draft.print.Goals as goal
 
-pub returns-in_err-list_delays : goal.returns-in_err-list_delays
-returns-in_err-list_delays g c =
+pub returns-in_err-given : goal.returns-in_err-given
+returns-in_err-given g c =
     let l = g.L.Listing in
     let d = c.args.self.now in
     let s = c.args.listing.now in
-    let t = c.list_delays.new.listing in
-    let r = c.list_delays.result in
+    let t = c.list_delays-given.new.listing in
+    let r = c.list_delays-given.result in
     let q = c.from_residual.result in
     let given : Giving l.meaning l.holds l.leaves (steps_of d) s t r q =
-    record { shut = sym c.if-has_open.ensures; tuning = sym c.in_default.ensures; gave = c.list_delays.ensures; answers = answered_err r q _ c.in_err-list_delays.was c.from_residual.ensures.1 } in
+    record { shut = sym c.if-has_open.ensures; tuning = sym c.in_default.ensures; gave = c.list_delays-given.ensures; answers = answered_err r q _ c.in_err-given.was c.from_residual.ensures.1 } in
     record { did = print_did l.meaning l.holds l.leaves d s t r q given; listed = print_listed l.meaning l.holds l.leaves (steps_of d) s t r q given }
 
 pub returns : goal.returns
@@ -22,8 +22,8 @@ returns g c =
     let l = g.L.Listing in
     let d = c.args.self.now in
     let s = c.args.listing.now in
-    let t = c.list_delays.new.listing in
-    let r = c.list_delays.result in
+    let t = c.list_delays-given.new.listing in
+    let r = c.list_delays-given.result in
     let given : Giving l.meaning l.holds l.leaves (steps_of d) s t r _ =
-    record { shut = sym c.if-has_open.ensures; tuning = sym c.in_default.ensures; gave = c.list_delays.ensures; answers = sym (ap answered c.in_ok-list_delays.was) } in
+    record { shut = sym c.if-has_open.ensures; tuning = sym c.in_default.ensures; gave = c.list_delays-given.ensures; answers = sym (ap answered c.in_ok-given.was) } in
     record { did = print_did l.meaning l.holds l.leaves d s t r _ given; listed = print_listed l.meaning l.holds l.leaves (steps_of d) s t r _ given }

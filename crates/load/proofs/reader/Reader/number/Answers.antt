@@ -12,7 +12,7 @@ pub returns-then-n-end : goal.returns-then-n-end
 returns-then-n-end c =
     let a = c.in_ok-array.ensures in
     let n = c.from_le_bytes-n.ensures ∙ le_four _ a.long in
-    rw c.at.ensures (number_large c.args.self.now _ _ 4 _ _ _ a.did (omega arith))
+    rw c.at.ensures (number_large c.args.self.now _ _ 4 _ _ _ a.did _ a.did.file (omega arith))
 
 pub returns : goal.returns
 returns c =

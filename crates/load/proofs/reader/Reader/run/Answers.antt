@@ -22,4 +22,4 @@ returns-in-Some-clause-did c =
     let u = width c.args.unit in
     let b = c.in_ok-bytes.ensures in
     let k = count_of c.args.unit c.args.n c.in_ok-bytes.bytes.now (b.long ∙ c.span.ensures) in
-    rw (c.at.ensures, c.bytes-in-Some.ensures) (run_bad c.args.self.now _ _ u _ _ c.args.n _ (rw c.span.ensures at b.did) (rw c.span.ensures at b.part) (b.long ∙ c.span.ensures) c.in-Some.i (rw k at c.in-Some.ensures))
+    rw (c.at.ensures, c.bytes-in-Some.ensures) (run_bad c.args.self.now _ _ u _ _ c.args.n _ (rw c.span.ensures at b.did) (rw c.span.ensures at b.part) (b.long ∙ c.span.ensures) _ b.did.file c.in-Some.i (rw k at c.in-Some.ensures))

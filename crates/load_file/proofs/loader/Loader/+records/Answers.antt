@@ -256,14 +256,14 @@ list-returns-in_err-opening t c =
     let a = c.args.self.now in
     let b = c.args.filler.now in
     rw (p.1, p.2) (record {
-      read = record { fills = record { filled = list_stop a.scope (c.args.depth.now.left - 1) c.args.start.place (tag c.args.start.label) b.reader _ b.store.now c.args.kind _ (c.in_err-opening.ensures []); lent = refl }; scope = refl };
+      read = record { fills = record { filled = list_stop a.scope (c.args.depth.now.left - 1) c.args.start.place (tag c.args.start.label) b.reader _ b.store.now c.args.kind _ (c.in_err-opening.ensures.did []); lent = refl }; scope = refl };
       depth = refl;
       levels = λ i le. refl;
     })
 
 pub list-hold-requires : goal.list-hold-requires
 list-hold-requires t c =
-    let g = list_got c.args.kind _ _ _ _ ((c.in_ok-opening.ensures (table_of c.args.self.now.scope.symbols)).ran []) in
+    let g = list_got c.args.kind _ _ _ _ ((c.in_ok-opening.ensures.did (table_of c.args.self.now.scope.symbols)).ran []) in
     (search rules, (c.requires.prepared, (c.requires.named, (c.requires.some, (g.allowed, g.named)))))
 
 pub list-returns : goal.list-returns
@@ -273,7 +273,7 @@ list-returns t c =
     let g = c.hold.ensures in
     record {
       read = record {
-        fills = record { filled = list_then a.scope (c.args.depth.now.left - 1) c.args.start.place (tag c.args.start.label) b.reader _ b.store.now c.args.kind _ _ _ _ (c.in_ok-opening.ensures (table_of a.scope.symbols)) g.read.fills.filled; lent = g.read.fills.lent };
+        fills = record { filled = list_then a.scope (c.args.depth.now.left - 1) c.args.start.place (tag c.args.start.label) b.reader _ b.store.now c.args.kind _ _ _ _ (c.in_ok-opening.ensures.did (table_of a.scope.symbols)) g.read.fills.filled; lent = g.read.fills.lent };
         scope = g.read.scope;
       };
       depth = g.depth;

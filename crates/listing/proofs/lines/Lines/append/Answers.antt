@@ -1,5 +1,5 @@
 use Rattle.listing.proofs.Appends.{gained}
-use Rattle.listing.proofs.lines.LinesListing.add.Goals as goal
+use Rattle.listing.proofs.lines.Lines.append.Goals as goal
 
 pub invariant_of-self : goal.invariant_of-self
 invariant_of-self g c =
