@@ -54,6 +54,9 @@ fn is_listed(store: &Store<'_>, end: usize, name: &[u8]) -> bool
             return false;
         }
         let count = left.min(name_count(store, object) as usize);
+        if count == 0 {
+            continue;
+        }
         if is_among(store, object, count, name) {
             return true;
         }
